@@ -1,0 +1,6 @@
+use Rattle.mpi_layout.proofs.Writing.{WrittenSoFar}
+use Rattle.mpi_layout.proofs.layout.write.Given as goal
+
+-- the rows so far read back, and the bytes past the layout are as before
+abbrev pub invariant-loop-i : goal.invariant-loop-i
+invariant-loop-i g l = WrittenSoFar l.layout.rows.now l.layout.length l.values l.initial.out l.out l.i
