@@ -2,16 +2,16 @@
 use Rattle.std.proofs.Common.{◌≡◌, ℕ, zero, suc, ◌+◌, ◌^◌, ◌<◌, ◌≤◌, Bool, true, false, IsTrue, List, [], ◌∷◌, ◌++◌, length, take, get_or, set, map, ltb, Option, Some, None, cond, not, refl, ap, sym, ◌∙◌, arith}
 use Rattle.std.specs.List.{find}
 use Rattle.std.proofs.lemmas.Bool.Decides.{nat_tests}
-use Rattle.std.proofs.Math.ListN.{length-set}
-use Rattle.std.proofs.lemmas.List.{take_all, take_more_set, map_more}
+use Rattle.std.proofs.Math.ListN.{get_or-map, length-set}
+use Rattle.std.proofs.lemmas.List.{length-map, take_all, take_more_set, map_more}
 use Rattle.byteorder.specs.Numbers.{little_from-lt}
 use Rattle.mpi_layout.proofs.Fields.{field-little}
 use Rattle.mpi_layout.specs.declared.row.Row.{Row}
-use Rattle.mpi_layout.specs.Rows.{breaks, field, fields, first_fault, obeys, number_in, values_fit}
+use Rattle.mpi_layout.specs.Rows.{RowShape, Shape, row_shape, breaks, field, fields, first_fault, obeys, number_in, values_fit}
 use Rattle.mpi_layout.specs.declared.fault.Fault.TheVariants.{Short, Field}
 
 -- the rows in front obey their rules, and their numbers stand in front of the values
-pub record ReadSoFar (rows : List Row) (bytes values : List ℕ) (i : ℕ) : Type 0 where
+pub record ReadSoFar (rows : List RowShape) (bytes values : List ℕ) (i : ℕ) : Type 0 where
   pub held : length values ≡ length rows
   pub obeyed : find (breaks bytes) (take i rows) ≡ None
   pub numbers : take i values ≡ fields (take i rows) bytes
@@ -42,10 +42,10 @@ find_more p (y ∷ xs) (suc i) d none less miss =
     let step : suc i + 1 ≡ suc (i + 1) = omega arith in
     rw (step, tested.0) ih
 
-pub read_none : (rows : List Row) (bytes values : List ℕ) → length values ≡ length rows → ReadSoFar rows bytes values 0
+pub read_none : (rows : List RowShape) (bytes values : List ℕ) → length values ≡ length rows → ReadSoFar rows bytes values 0
 read_none rows bytes values whole = record { held = whole; obeyed = refl; numbers = refl }
 
-pub read_more : (rows : List Row) (bytes values : List ℕ) (i : ℕ) (d : Row) (v : ℕ) → i < length rows → v ≡ number_in bytes (get_or rows i d) → obeys (get_or rows i d).rule v ≡ true → ReadSoFar rows bytes values i → ReadSoFar rows bytes (set values i v) (i + 1)
+pub read_more : (rows : List RowShape) (bytes values : List ℕ) (i : ℕ) (d : RowShape) (v : ℕ) → i < length rows → v ≡ number_in bytes (get_or rows i d) → obeys (get_or rows i d).rule v ≡ true → ReadSoFar rows bytes values i → ReadSoFar rows bytes (set values i v) (i + 1)
 read_more rows bytes values i d v less is ok so_far = record {
   held = simp length-set so_far.held;
   obeyed = find_more (breaks bytes) rows i d so_far.obeyed less (ap not (ap (obeys (get_or rows i d).rule) (sym is) ∙ ok));
@@ -56,28 +56,25 @@ read_more rows bytes values i d v less is ok so_far = record {
       written ∙ ap (λ front. front ++ v ∷ []) so_far.numbers ∙ sym (listed ∙ ap (λ x. fields (take i rows) bytes ++ x ∷ []) (sym is));
 }
 
-pub read_breaks : (rows : List Row) (bytes values : List ℕ) (i : ℕ) (d : Row) (v : ℕ) → i < length rows → v ≡ number_in bytes (get_or rows i d) → obeys (get_or rows i d).rule v ≡ false → ReadSoFar rows bytes values i → find (breaks bytes) rows ≡ Some (get_or rows i d)
+pub read_breaks : (rows : List RowShape) (bytes values : List ℕ) (i : ℕ) (d : RowShape) (v : ℕ) → i < length rows → v ≡ number_in bytes (get_or rows i d) → obeys (get_or rows i d).rule v ≡ false → ReadSoFar rows bytes values i → find (breaks bytes) rows ≡ Some (get_or rows i d)
 read_breaks rows bytes values i d v less is ok so_far =
     find_first (breaks bytes) rows i d so_far.obeyed less (ap not (ap (obeys (get_or rows i d).rule) (sym is) ∙ ok))
 
-pub read_all : (rows : List Row) (bytes values : List ℕ) (i : ℕ) → length rows ≤ i → ReadSoFar rows bytes values i → (find (breaks bytes) rows ≡ None) × (values ≡ fields rows bytes)
+pub read_all : (rows : List RowShape) (bytes values : List ℕ) (i : ℕ) → length rows ≤ i → ReadSoFar rows bytes values i → (find (breaks bytes) rows ≡ None) × (values ≡ fields rows bytes)
 read_all rows bytes values i all so_far =
     let e = take_all i rows all in
     let f = take_all i values (omega (arith, so_far.held)) in
     (rw e at so_far.obeyed, sym f ∙ so_far.numbers ∙ ap (λ front. fields front bytes) e)
 
 -- the first fault, by what a reading finds
-pub first_fault-short : (rows : List Row) (need : ℕ) (bytes : List ℕ) → length bytes < need → first_fault rows need bytes ≡ Some (Short need (length bytes))
-first_fault-short rows need bytes few = grind (arith, nat_tests)
-
-pub first_fault-field : (rows : List Row) (need : ℕ) (bytes : List ℕ) (row : Row) → need ≤ length bytes → find (breaks bytes) rows ≡ Some row → first_fault rows need bytes ≡ Some (Field row.at)
-first_fault-field rows need bytes row enough found =
-    let whole : ltb (length bytes) need ≡ false = grind (arith, nat_tests) in
+pub first_fault-field : (layout : Shape) (bytes : List ℕ) (row : RowShape) → layout.length ≤ length bytes → find (breaks bytes) layout.rows ≡ Some row → first_fault layout bytes ≡ Some (Field row.at)
+first_fault-field layout bytes row enough found =
+    let whole : ltb (length bytes) layout.length ≡ false = grind (arith, nat_tests) in
     rw (whole, found) refl
 
-pub first_fault-none : (rows : List Row) (need : ℕ) (bytes : List ℕ) → need ≤ length bytes → find (breaks bytes) rows ≡ None → first_fault rows need bytes ≡ None
-first_fault-none rows need bytes enough found =
-    let whole : ltb (length bytes) need ≡ false = grind (arith, nat_tests) in
+pub first_fault-none : (layout : Shape) (bytes : List ℕ) → layout.length ≤ length bytes → find (breaks bytes) layout.rows ≡ None → first_fault layout bytes ≡ None
+first_fault-none layout bytes enough found =
+    let whole : ltb (length bytes) layout.length ≡ false = grind (arith, nat_tests) in
     rw (whole, found) refl
 
 not_false : (b : Bool) → not b ≡ false → b ≡ true
@@ -88,11 +85,11 @@ field-lt : (bytes : List ℕ) (at width : ℕ) → ((k : ℕ) → get_or bytes k
 field-lt bytes at width small = rw (field-little bytes at width) (little_from-lt at width bytes small)
 
 -- one more value fits
-first_fits : (row : Row) (value : ℕ) (rows : List Row) (values : List ℕ) → value < 256 ^ row.width → obeys row.rule value ≡ true → IsTrue (values_fit rows values) → IsTrue (values_fit (row ∷ rows) (value ∷ values))
+first_fits : (row : RowShape) (value : ℕ) (rows : List RowShape) (values : List ℕ) → value < 256 ^ row.width → obeys row.rule value ≡ true → IsTrue (values_fit rows values) → IsTrue (values_fit (row ∷ rows) (value ∷ values))
 first_fits row value rows values low allowed rest = grind (arith, nat_tests)
 
 -- what is read fits its rows, since each byte is below 256
-pub fields_fit : (rows : List Row) (bytes values : List ℕ) → ((k : ℕ) → get_or bytes k 0 < 256) → find (breaks bytes) rows ≡ None → values ≡ fields rows bytes → IsTrue (values_fit rows values)
+pub fields_fit : (rows : List RowShape) (bytes values : List ℕ) → ((k : ℕ) → get_or bytes k 0 < 256) → find (breaks bytes) rows ≡ None → values ≡ fields rows bytes → IsTrue (values_fit rows values)
 fields_fit [] bytes values small none is = refl
 fields_fit (row ∷ rows) bytes [] small none is = cc
 fields_fit (row ∷ rows) bytes (value ∷ values) small none is =
@@ -103,3 +100,14 @@ fields_fit (row ∷ rows) bytes (value ∷ values) small none is =
     let low : value < 256 ^ row.width = rw here (field-lt bytes row.at row.width small) in
     let allowed : obeys row.rule value ≡ true = ap (obeys row.rule) here ∙ not_false (obeys row.rule (number_in bytes row)) front.0 in
     first_fits row value rows values low allowed ih
+
+-- the steps for a row of the code
+pub code_more : (rows : List Row) (bytes values : List ℕ) (i : ℕ) (d : Row) (v : ℕ) → i < length rows → v ≡ number_in bytes (row_shape (get_or rows i d)) → obeys (get_or rows i d).rule v ≡ true → ReadSoFar (map row_shape rows) bytes values i → ReadSoFar (map row_shape rows) bytes (set values i v) (i + 1)
+code_more rows bytes values i d v less is ok so_far =
+    let row = get_or-map row_shape rows i d in
+    read_more (map row_shape rows) bytes values i (row_shape d) v (simp length-map less) (is ∙ ap (number_in bytes) (sym row)) (ap (λ (r : RowShape). obeys r.rule v) row ∙ ok) so_far
+
+pub code_breaks : (rows : List Row) (bytes values : List ℕ) (i : ℕ) (d : Row) (v : ℕ) → i < length rows → v ≡ number_in bytes (row_shape (get_or rows i d)) → obeys (get_or rows i d).rule v ≡ false → ReadSoFar (map row_shape rows) bytes values i → find (breaks bytes) (map row_shape rows) ≡ Some (row_shape (get_or rows i d))
+code_breaks rows bytes values i d v less is ok so_far =
+    let row = get_or-map row_shape rows i d in
+    read_breaks (map row_shape rows) bytes values i (row_shape d) v (simp length-map less) (is ∙ ap (number_in bytes) (sym row)) (ap (λ (r : RowShape). obeys r.rule v) row ∙ ok) so_far ∙ ap Some row

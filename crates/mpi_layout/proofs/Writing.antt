@@ -1,21 +1,22 @@
 -- What a writing has left by the time it has come to a row.
-use Rattle.std.proofs.Common.{◌≡◌, ℕ, zero, suc, ◌+◌, ◌-◌, ◌^◌, ◌<◌, ◌≤◌, Bool, true, false, IsTrue, List, [], ◌∷◌, ◌++◌, length, take, drop, get_or, cond, not, Option, Some, None, refl, append-nil, ap, sym, ◌∙◌, arith}
+use Rattle.std.proofs.Common.{◌≡◌, ℕ, zero, suc, ◌+◌, ◌-◌, ◌^◌, ◌<◌, ◌≤◌, Bool, true, false, IsTrue, List, [], ◌∷◌, ◌++◌, length, take, drop, get_or, cond, not, Option, Some, None, refl, append-nil, map, subst, ap, sym, ◌∙◌, arith}
 use Rattle.std.specs.List.{find, list_all, zip}
 use Rattle.std.proofs.lemmas.Bool.Decides.{nat_tests}
 use Rattle.std.proofs.lemmas.Grind.{common_steps}
-use Rattle.std.proofs.lemmas.List.{take_all, map_more, take_more, drop_all, drop-drop, length-drop, length-take}
+use Rattle.std.proofs.lemmas.List.{take_all, map_more, take_more, length-map, drop_all, drop-drop, length-drop, length-take}
+use Rattle.std.proofs.Math.ListN.{get_or-map}
 use Rattle.std.proofs.Math.Seq.{drop-append_seam}
 use Rattle.std.proofs.lemmas.Slice.{take-put_mid_below}
 use borrow.Rule.Slice.PartMut.{put_mid}
 use Rattle.byteorder.specs.Endian.{little_from, little_number, little_bytes}
 use Rattle.byteorder.specs.Numbers.{length-bytes_low_first, little_from-take, little_number-reads_back}
 use Rattle.mpi_layout.specs.declared.row.Row.{Row}
-use Rattle.mpi_layout.specs.Rows.{breaks, field, fields, number_in, obeys, tiles, value_fits, values_fit, Stands}
+use Rattle.mpi_layout.specs.Rows.{RowShape, Shape, row_shape, breaks, field, fields, number_in, obeys, tiles, value_fits, values_fit, Stands}
 use Rattle.mpi_layout.proofs.Fields.{field-little, field_reads}
 use Rattle.mpi_layout.proofs.Tiling.{LiesIn, tiles_row, first_row, tiles_end}
 
 -- the rows in front read back their values, and the bytes past the layout are as before
-pub record WrittenSoFar (rows : List Row) (end : ℕ) (values before out : List ℕ) (i : ℕ) : Type 0 where
+pub record WrittenSoFar (rows : List RowShape) (end : ℕ) (values before out : List ℕ) (i : ℕ) : Type 0 where
   pub numbers : fields (take i rows) out ≡ take i values
   pub rest : drop end out ≡ drop end before
 
@@ -25,7 +26,7 @@ field_front xs ys at n m within same =
     field-little xs at n ∙ sym (little_from-take at n m xs within) ∙ ap (little_from at n) same ∙ little_from-take at n m ys within ∙ sym (field-little ys at n)
 
 -- the rows in front of a row read the bytes in front of it alone
-fields_front : (from end : ℕ) (rows : List Row) (i : ℕ) (d : Row) (xs ys : List ℕ) → IsTrue (tiles from end rows) → i < length rows → take (get_or rows i d).at xs ≡ take (get_or rows i d).at ys → fields (take i rows) xs ≡ fields (take i rows) ys
+fields_front : (from end : ℕ) (rows : List RowShape) (i : ℕ) (d : RowShape) (xs ys : List ℕ) → IsTrue (tiles from end rows) → i < length rows → take (get_or rows i d).at xs ≡ take (get_or rows i d).at ys → fields (take i rows) xs ≡ fields (take i rows) ys
 fields_front from end [] i d xs ys h less same = absurd (omega arith)
 fields_front from end (first ∷ rows) zero d xs ys h less same = refl
 fields_front from end (first ∷ rows) (suc i) d xs ys h less same =
@@ -69,7 +70,7 @@ drop_further xs ys n m le same =
     left ∙ ap (drop (m - n)) same ∙ sym right
 
 -- one more row is written
-pub written_more : (rows : List Row) (end : ℕ) (values before out new : List ℕ) (i : ℕ) (d : Row) → IsTrue (tiles 0 end rows) → i < length rows → i < length values → number_in new (get_or rows i d) ≡ get_or values i 0 → take (get_or rows i d).at new ≡ take (get_or rows i d).at out → drop ((get_or rows i d).at + (get_or rows i d).width) new ≡ drop ((get_or rows i d).at + (get_or rows i d).width) out → WrittenSoFar rows end values before out i
+pub written_more : (rows : List RowShape) (end : ℕ) (values before out new : List ℕ) (i : ℕ) (d : RowShape) → IsTrue (tiles 0 end rows) → i < length rows → i < length values → number_in new (get_or rows i d) ≡ get_or values i 0 → take (get_or rows i d).at new ≡ take (get_or rows i d).at out → drop ((get_or rows i d).at + (get_or rows i d).width) new ≡ drop ((get_or rows i d).at + (get_or rows i d).width) out → WrittenSoFar rows end values before out i
     → WrittenSoFar rows end values before new (i + 1)
 written_more rows end values before out new i d h less room here front back so_far =
     let lies = tiles_row 0 end rows i d h less in
@@ -81,11 +82,11 @@ written_more rows end values before out new i d h less room here front back so_f
     }
 
 -- what the test says of the first value
-pub fits_front : (row : Row) (value : ℕ) (rows : List Row) (values : List ℕ) → IsTrue (values_fit (row ∷ rows) (value ∷ values)) → (value < 256 ^ row.width) × (obeys row.rule value ≡ true) × IsTrue (values_fit rows values)
+pub fits_front : (row : RowShape) (value : ℕ) (rows : List RowShape) (values : List ℕ) → IsTrue (values_fit (row ∷ rows) (value ∷ values)) → (value < 256 ^ row.width) × (obeys row.rule value ≡ true) × IsTrue (values_fit rows values)
 fits_front row value rows values h = grind (arith, nat_tests)
 
 -- values that fit obey their rules where they are read
-pub fits_obeyed : (rows : List Row) (values bytes : List ℕ) → IsTrue (values_fit rows values) → fields rows bytes ≡ values → find (breaks bytes) rows ≡ None
+pub fits_obeyed : (rows : List RowShape) (values bytes : List ℕ) → IsTrue (values_fit rows values) → fields rows bytes ≡ values → find (breaks bytes) rows ≡ None
 fits_obeyed [] values bytes h e = refl
 fits_obeyed (row ∷ rows) [] bytes h e = cc
 fits_obeyed (row ∷ rows) (value ∷ values) bytes h e =
@@ -97,7 +98,7 @@ fits_obeyed (row ∷ rows) (value ∷ values) bytes h e =
     rw allowed ih
 
 -- each value that fits is below the power of its width
-pub fits_small : (rows : List Row) (values : List ℕ) (i : ℕ) (d : Row) → IsTrue (values_fit rows values) → i < length rows → i < length values → get_or values i 0 < 256 ^ (get_or rows i d).width
+pub fits_small : (rows : List RowShape) (values : List ℕ) (i : ℕ) (d : RowShape) → IsTrue (values_fit rows values) → i < length rows → i < length values → get_or values i 0 < 256 ^ (get_or rows i d).width
 fits_small [] values i d h less room = absurd (omega arith)
 fits_small (row ∷ rows) [] i d h less room = absurd (omega arith)
 fits_small (row ∷ rows) (value ∷ values) zero d h less room = (fits_front row value rows values h).0
@@ -105,7 +106,21 @@ fits_small (row ∷ rows) (value ∷ values) (suc i) d h less room =
     fits_small rows values i d (fits_front row value rows values h).2 (omega arith) (omega arith)
 
 -- all rows are written
-pub written_all : (rows : List Row) (end : ℕ) (values before out : List ℕ) (i : ℕ) → length rows ≤ i → length values ≤ i → end ≤ length out → IsTrue (values_fit rows values) → WrittenSoFar rows end values before out i → Stands rows end values out
-written_all rows end values before out i all whole enough h so_far =
-    let numbers = ap (λ front. fields front out) (sym (take_all i rows all)) ∙ so_far.numbers ∙ take_all i values whole in
-    record { enough = enough; numbers = numbers; obeyed = fits_obeyed rows values out h numbers }
+pub written_all : (layout : Shape) (values before out : List ℕ) (i : ℕ) → length layout.rows ≤ i → length values ≤ i → layout.length ≤ length out → IsTrue (values_fit layout.rows values) → WrittenSoFar layout.rows layout.length values before out i → Stands layout values out
+written_all layout values before out i all whole enough h so_far =
+    let numbers = ap (λ front. fields front out) (sym (take_all i layout.rows all)) ∙ so_far.numbers ∙ take_all i values whole in
+    record { enough = enough; numbers = numbers; obeyed = fits_obeyed layout.rows values out h numbers }
+
+-- the step for a row of the code
+pub code_written : (rows : List Row) (end : ℕ) (values before out new : List ℕ) (i : ℕ) (d : Row) → IsTrue (tiles 0 end (map row_shape rows)) → i < length rows → i < length values → number_in new (row_shape (get_or rows i d)) ≡ get_or values i 0 → take (get_or rows i d).at new ≡ take (get_or rows i d).at out → drop ((get_or rows i d).at + (get_or rows i d).width) new ≡ drop ((get_or rows i d).at + (get_or rows i d).width) out → WrittenSoFar (map row_shape rows) end values before out i
+    → WrittenSoFar (map row_shape rows) end values before new (i + 1)
+code_written rows end values before out new i d h less room here front back so_far =
+    let row = sym (get_or-map row_shape rows i d) in
+    written_more (map row_shape rows) end values before out new i (row_shape d) h (simp length-map less) room
+    (subst (λ (r : RowShape). number_in new r ≡ get_or values i 0) row here)
+    (subst (λ (r : RowShape). take r.at new ≡ take r.at out) row front)
+    (subst (λ (r : RowShape). drop (r.at + r.width) new ≡ drop (r.at + r.width) out) row back) so_far
+
+pub code_small : (rows : List Row) (values : List ℕ) (i : ℕ) (d : Row) → IsTrue (values_fit (map row_shape rows) values) → i < length rows → i < length values → get_or values i 0 < 256 ^ (get_or rows i d).width
+code_small rows values i d h less room =
+    subst (λ (r : RowShape). get_or values i 0 < 256 ^ r.width) (get_or-map row_shape rows i d) (fits_small (map row_shape rows) values i (row_shape d) h (simp length-map less) room)

@@ -3,12 +3,10 @@
 
 mod fault;
 mod layout;
-mod narrow;
 mod row;
 
 pub use fault::Fault;
 pub use layout::{Layout, fits, read, write};
-pub use narrow::{low_u8, low_u16, low_u32};
 pub use row::{Form, Row, Rule};
 
 /// A row that a listing shows as a number: `number!(offset, width, name, rule)`.
@@ -36,5 +34,26 @@ macro_rules! bytes {
             rule: $rule,
             form: $crate::Form::Bytes,
         }
+    };
+}
+
+/// The low bytes of a number, as a field of so many bytes: `low!(value, bytes)` with 1, 2, 3, 4 or
+/// 8 bytes, a `u8`, a `u16`, a `u32`, a `u32` or a `u64`.
+#[macro_export]
+macro_rules! low {
+    ($value:expr, 1) => {
+        ($value % 0x100) as u8
+    };
+    ($value:expr, 2) => {
+        ($value % 0x1_0000) as u16
+    };
+    ($value:expr, 3) => {
+        ($value % 0x100_0000) as u32
+    };
+    ($value:expr, 4) => {
+        ($value % 0x1_0000_0000) as u32
+    };
+    ($value:expr, 8) => {
+        $value
     };
 }

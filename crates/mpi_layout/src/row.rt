@@ -1,7 +1,7 @@
 //! One row of a layout.
 ghost use Rattle.std.specs.Prelude.{◌≡◌, ◌==◌, ◌≤◌, ◌+◌, ◌^◌, ◌<◌, nat_lt, take, drop, length};
 ghost use Rattle.std.specs.List.{list_any};
-ghost use Rattle.mpi_layout.specs.Rows.{obeys, number_in, value_fits};
+ghost use Rattle.mpi_layout.specs.Rows.{obeys, number_in, row_shape, value_fits};
 
 use byteorder::{ByteOrder, LittleEndian};
 
@@ -82,27 +82,27 @@ fn fits_width(value: u64, width: u8) -> bool
 impl Row {
     /// The row's number in the bytes.
     #[tactic(auto, using(crate::proofs::Fields::field_reads))]
-    pub fn number_in(&self, bytes: &[u8]) -> u64
+    pub(crate) fn number_in(&self, bytes: &[u8]) -> u64
         requires narrow { (1 ≤ self.now.width) × (self.now.width ≤ 8) }
         requires within { self.now.at + self.now.width ≤ length bytes.now }
-        ensures number { result ≡ number_in bytes.now self.now }
+        ensures number { result ≡ number_in bytes.now (row_shape self.now) }
     {
         LittleEndian::read_uint(&bytes[self.at as usize..], self.width as usize)
     }
 
     /// Whether the value fits the row's width and its rule allows it.
-    pub fn holds(&self, value: u64) -> bool
-        ensures { result ≡ value_fits self.now value }
+    pub(crate) fn holds(&self, value: u64) -> bool
+        ensures { result ≡ value_fits (row_shape self.now) value }
     {
         fits_width(value, self.width) && self.rule.allows(value)
     }
 
     /// Writes the value into the row's bytes. The others stay.
-    pub fn put(&self, value: u64, out: &mut [u8])
+    pub(crate) fn put(&self, value: u64, out: &mut [u8])
         requires narrow { (1 ≤ self.now.width) × (self.now.width ≤ 8) }
         requires within { self.now.at + self.now.width ≤ length out.old }
         requires small { value < 256 ^ self.now.width }
-        ensures number { number_in out.new self.now ≡ value }
+        ensures number { number_in out.new (row_shape self.now) ≡ value }
         ensures front { take self.now.at out.new ≡ take self.now.at out.old }
         ensures back { drop (self.now.at + self.now.width) out.new
             ≡ drop (self.now.at + self.now.width) out.old }

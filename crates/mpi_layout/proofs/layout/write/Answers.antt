@@ -1,22 +1,34 @@
-use Rattle.std.proofs.Common.{◌≡◌, ◌<◌, ◌≤◌, ◌∙◌, length, take, ap, sym, arith}
-use Rattle.mpi_layout.proofs.Tiling.{LiesIn, tiles_row, tiles_room}
-use Rattle.mpi_layout.proofs.Writing.{fits_small, written_more, written_all}
+use Rattle.std.proofs.Common.{IsTrue, ◌≡◌, ◌<◌, ◌≤◌, ◌∙◌, map, length, take, drop, subst, ap, sym, arith}
+use Rattle.std.proofs.lemmas.List.{length-map}
+use Rattle.mpi_layout.specs.Rows.{Shape, Stands, row_shape, values_fit}
+use Rattle.mpi_layout.proofs.Tiling.{LiesIn, code_row, code_room}
+use Rattle.mpi_layout.proofs.Writing.{code_small, code_written, written_all}
 use Rattle.mpi_layout.proofs.layout.write.Goals as goal
 
 pub put-requires : goal.put-requires
 put-requires g c =
-    let less : c.loop-i.i < length c.args.layout.now.rows.now = omega (arith, c.args.layout.now.whole) in
-    let lies = tiles_row 0 c.args.layout.now.length c.args.layout.now.rows.now c.loop-i.i _ c.args.layout.now.tiled less in
+    let less : c.loop-i.i < length c.layout.inside.rows.now = omega (arith, c.layout.invariant.0) in
+    let lies = code_row 0 c.layout.inside.len c.layout.inside.rows.now c.loop-i.i _ c.layout.invariant.1 less in
+    let fitting : IsTrue (values_fit (map row_shape c.layout.inside.rows.now) c.args.values.now) = subst (λ (shape : Shape). IsTrue (values_fit shape.rows c.args.values.now)) (sym c.layout.view_is) c.requires.fitting in
+    let room : c.layout.inside.len ≤ length c.args.out.now = subst (λ (shape : Shape). shape.length ≤ length c.args.out.now) (sym c.layout.view_is) c.requires.room in
     record {
       narrow = (lies.wide, lies.narrow);
-      within = tiles_room 0 c.args.layout.now.length (length c.loop-i.out) c.args.layout.now.rows.now c.loop-i.i _ c.args.layout.now.tiled less (omega (arith, c.requires.room, c.loop-i.auto.out));
-      small = fits_small c.args.layout.now.rows.now c.args.values.now c.loop-i.i _ c.requires.fitting less (omega (arith, c.told-values));
+      within = code_room 0 c.layout.inside.len (length c.loop-i.out) c.layout.inside.rows.now c.loop-i.i _ c.layout.invariant.1 less (omega (arith, room, c.loop-i.auto.out));
+      small = code_small c.layout.inside.rows.now c.args.values.now c.loop-i.i _ fitting less (omega (arith, c.told-values));
     }
 
 pub loop-i-preserved : goal.loop-i-preserved
 loop-i-preserved g c =
-    written_more c.args.layout.now.rows.now c.args.layout.now.length c.args.values.now c.args.out.now c.loop-i.out c.put.new.out c.loop-i.i _ c.args.layout.now.tiled (omega (arith, c.args.layout.now.whole)) (omega (arith, c.told-values)) c.put.ensures.number c.put.ensures.front c.put.ensures.back c.loop-i.invariant
+    code_written c.layout.inside.rows.now c.layout.inside.len c.args.values.now c.args.out.now c.loop-i.out c.put.new.out c.loop-i.i _ c.layout.invariant.1 (omega (arith, c.layout.invariant.0)) (omega (arith, c.told-values)) c.put.ensures.number c.put.ensures.front c.put.ensures.back c.loop-i.invariant
 
 pub returns-clause-stands : goal.returns-clause-stands
 returns-clause-stands g c =
-    written_all c.args.layout.now.rows.now c.args.layout.now.length c.args.values.now c.args.out.now c.loop-i.out c.loop-i.i (omega (arith, c.args.layout.now.whole)) (omega (arith, c.told-values)) (omega (arith, c.requires.room, c.loop-i.auto.out)) c.requires.fitting c.loop-i.invariant
+    let shape : Shape = record { rows = map row_shape c.layout.inside.rows.now; length = c.layout.inside.len } in
+    let fitting : IsTrue (values_fit (map row_shape c.layout.inside.rows.now) c.args.values.now) = subst (λ (s : Shape). IsTrue (values_fit s.rows c.args.values.now)) (sym c.layout.view_is) c.requires.fitting in
+    let room : c.layout.inside.len ≤ length c.args.out.now = subst (λ (s : Shape). s.length ≤ length c.args.out.now) (sym c.layout.view_is) c.requires.room in
+    subst (λ (s : Shape). Stands s c.args.values.now c.loop-i.out) c.layout.view_is
+    (written_all shape c.args.values.now c.args.out.now c.loop-i.out c.loop-i.i (simp length-map (omega (arith, c.layout.invariant.0))) (omega (arith, c.told-values)) (omega (arith, room, c.loop-i.auto.out)) fitting c.loop-i.invariant)
+
+pub returns-clause-rest : goal.returns-clause-rest
+returns-clause-rest g c =
+    subst (λ (s : Shape). drop s.length c.loop-i.out ≡ drop s.length c.args.out.now) c.layout.view_is c.loop-i.invariant.rest
