@@ -1,13 +1,13 @@
 -- Counts of 64 bits, which stand still at their last value.
-use Rattle.std.specs.Prelude.{◌≡◌, ℕ, ◌+◌, ◌-◌, ◌^◌, ◌<◌, ◌≤◌, min, ◌⊎◌}
+use Rattle.std.specs.Prelude.{◌≡◌, ℕ, ◌+◌, ◌-◌, ◌^◌, ◌<◌, ◌≤◌, min, max, ◌⊎◌}
 
--- the last value of a count, at which it stands still
+-- the last value of a count
 abbrev pub last_count : ℕ
 last_count = 2 ^ 64 - 1
 
--- a count after so many more
-abbrev pub counted : ℕ → ℕ → ℕ
-counted count more = min (count + more) last_count
+-- a count after so many more, which stands still at its last value
+unfoldable pub counted : ℕ → ℕ → ℕ
+counted count more = max count (min (count + more) last_count)
 
 -- the count is greater than before, or stands at its last value
 abbrev pub Rose : ℕ → ℕ → Type 0

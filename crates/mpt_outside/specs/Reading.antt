@@ -7,8 +7,9 @@ use Rattle.mpt_outside.specs.declared.reading.ReadFault.{ReadFault}
 use Rattle.mpt_outside.specs.declared.reading.ReadFault.TheVariants as fault
 
 -- these bytes came from a source: they stood first among those that were left, where it tells those, and are counted as given
-abbrev pub Came : Option (List ℕ) → Option (List ℕ) → ℕ → ℕ → List ℕ → Type 0
-Came left left' given given' bytes = Consumes left left' bytes × (given' ≡ counted given (length bytes))
+pub record Came (left left' : Option (List ℕ)) (given given' : ℕ) (bytes : List ℕ) : Type 0 where
+  pub first : Consumes left left' bytes
+  pub count : given' ≡ counted given (length bytes)
 
 -- how many bytes had come where a reading up to a limit stopped without its end
 abbrev pub StoppedAfter : ReadFault → ℕ → ℕ → Type 0

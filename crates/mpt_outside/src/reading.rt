@@ -1,7 +1,7 @@
 //! Reading a source to its end.
-ghost use Rattle.std.specs.Prelude.{◌≡◌, ℕ, ◌+◌, ◌<◌, ◌≤◌, List, length, vec_len, IfOk, IfErr, IfSome, OnOk, IsErrOf};
+ghost use Rattle.std.specs.Prelude.{◌≡◌, ℕ, ◌+◌, ◌<◌, ◌≤◌, List, false, ◌++◌, length, vec_len, IsTrue, IfOk, IfErr, IfSome, OnOk, IsErrOf};
 ghost use Rattle.std.specs.Io.KnownBytes.{IsAtEnd};
-ghost use Rattle.mpt_outside.specs.Counts.{counted, Rose, NeverFalls};
+ghost use Rattle.mpt_outside.specs.Counts.{Rose, NeverFalls};
 ghost use Rattle.mpt_outside.specs.Reading.{Came, StoppedAfter};
 
 use crate::errors::Failed;
@@ -54,23 +54,57 @@ pub fn read_all<S: Source>(alloc: Global, source: &mut S, limit: usize) -> Resul
     ensures stopped { IfErr result (λ e. (bytes : List ℕ) × Came (S.left source.old) (S.left source.new)
         (S.given source.old) (S.given source.new) bytes × StoppedAfter e limit (length bytes)) }
 
+    // Of a source that tells its bytes.
+    ensures told { IfOk result (λ bytes. IfSome (S.left source.old) (λ left. bytes.items ≡ left)) }
+    ensures too_long { IsErrOf result ReadFault.TooLong
+        → IfSome (S.left source.old) (λ left. limit < length left) }
+
     // Of the source's faults.
     ensures failed { IsErrOf result ReadFault.Failed → Rose (S.faults source.old) (S.faults source.new) }
     ensures steady { OnOk result (S.faults source.new ≡ S.faults source.old) }
     ensures never_falls { NeverFalls (S.faults source.old) (S.faults source.new) }
 {
-    let mut chunk = vec![in alloc; 0u8; CHUNK]?;
+    let mut chunk = new_chunk(alloc)?;
     let mut bytes = Vec::new(alloc);
-    loop {
-        let room = limit - bytes.len();
-        let want = room.saturating_add(1).min(CHUNK);
-        let count = source.take(&mut chunk[..want])?;
-        if count == 0 {
-            return Ok(bytes);
-        }
-        if count > room {
-            return Err(ReadFault::TooLong);
-        }
-        bytes.extend_from_slice(&chunk[..count])?;
+    while read_piece(source, &mut chunk, &mut bytes, limit)? {}
+    Ok(bytes)
+}
+
+fn new_chunk(alloc: Global) -> Result<Vec<u8>, AllocError>
+    ensures { IfOk result (λ chunk. vec_len chunk ≡ CHUNK) }
+{
+    vec![in alloc; 0u8; CHUNK]
+}
+
+// Puts what the source gives next to the end of `bytes`. False at the source's end.
+fn read_piece<S: Source>(
+    source: &mut S,
+    chunk: &mut [u8],
+    bytes: &mut Vec<u8>,
+    limit: usize,
+) -> Result<bool, ReadFault>
+    requires space { 0 < length chunk.old }
+    requires room { vec_len bytes.old ≤ limit }
+    ensures came { OnOk result ((piece : List ℕ) × Came (S.left source.old) (S.left source.new)
+        (S.given source.old) (S.given source.new) piece × (bytes.new.items ≡ bytes.old.items ++ piece)) }
+    ensures more { IfOk result (λ is_more. IsTrue is_more → vec_len bytes.old < vec_len bytes.new) }
+    ensures end { IfOk result (λ is_more. is_more ≡ false → IsAtEnd (S.left source.new)) }
+    ensures short { OnOk result (vec_len bytes.new ≤ limit) }
+    ensures stopped { IfErr result (λ e. (piece : List ℕ) × Came (S.left source.old) (S.left source.new)
+        (S.given source.old) (S.given source.new) piece × StoppedAfter e limit (vec_len bytes.old + length piece)) }
+    ensures failed { IsErrOf result ReadFault.Failed → Rose (S.faults source.old) (S.faults source.new) }
+    ensures steady { OnOk result (S.faults source.new ≡ S.faults source.old) }
+    ensures never_falls { NeverFalls (S.faults source.old) (S.faults source.new) }
+{
+    let room = limit - bytes.len();
+    let want = room.saturating_add(1).min(chunk.len());
+    let piece = &mut chunk[..want];
+    let Ok(count) = source.take(piece) else {
+        return Err(ReadFault::Failed);
+    };
+    if count > room {
+        return Err(ReadFault::TooLong);
     }
+    bytes.extend_from_slice(&piece[..count])?;
+    Ok(count > 0)
 }
