@@ -26,4 +26,3 @@ pub(crate) fn is_listed(calls: &[u32], call: u64) -> bool
 {
     calls.iter().any(|listed| u64::from(*listed) == call)
 }
-

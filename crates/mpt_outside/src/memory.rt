@@ -117,7 +117,12 @@ impl Model for MemorySink {
 impl MemorySink {
     /// A sink with room for so many bytes, at most `piece` of them per call, and at least 1. The calls
     /// with the numbers in `failing` fail, counted from 0.
-    pub fn new(alloc: Global, piece: usize, room: usize, failing: Vec<u32>) -> Result<MemorySink, OutOfMemory>
+    pub fn new(
+        alloc: Global,
+        piece: usize,
+        room: usize,
+        failing: Vec<u32>,
+    ) -> Result<MemorySink, OutOfMemory>
         requires { 0 < piece }
         ensures { IfOk result (λ sink. sink ≡ empty_sink piece room failing.items) }
     {

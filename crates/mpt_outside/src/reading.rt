@@ -46,7 +46,11 @@ impl From<AllocError> for ReadFault {
 
 /// Reads a source to its end, which must come after at most `limit` bytes. A source that has more
 /// gives `limit` + 1 of them.
-pub fn read_all<S: Source>(alloc: Global, source: &mut S, limit: usize) -> Result<Vec<u8>, ReadFault>
+pub fn read_all<S: Source>(
+    alloc: Global,
+    source: &mut S,
+    limit: usize,
+) -> Result<Vec<u8>, ReadFault>
     ensures all { IfOk result (λ bytes. Came (S.left source.old) (S.left source.new)
         (S.given source.old) (S.given source.new) bytes.items) }
     ensures end { OnOk result (IsAtEnd (S.left source.new)) }
