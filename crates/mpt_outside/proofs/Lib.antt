@@ -1,0 +1,4 @@
+pub mod CountLemmas
+pub mod CameLemmas
+pub mod PutLemmas
+pub mod PieceLemmas
