@@ -39,7 +39,9 @@ impl<const N: usize> Layout<N> {
 
     /// The rows, by rising offset.
     pub fn rows(&self) -> &'static [Row]
-        ensures { map row_shape result.now ≡ self.now.rows }
+        ensures same { map row_shape result.now ≡ self.now.rows }
+        ensures whole { count result.now ≡ N }
+        ensures tiled { IsTiled self.now }
     {
         self.rows
     }

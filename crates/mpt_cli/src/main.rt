@@ -1,0 +1,35 @@
+//! The command line: decodes one message from hexadecimal.
+#![tactic(auto)]
+
+mod answer;
+mod command;
+mod input;
+mod run;
+mod status;
+
+pub use command::Command;
+use mpt_outside::{StdSink, StdSource};
+use mpt_text::OutOfMemory;
+pub use run::run;
+pub use status::Status;
+use std::process::ExitCode;
+use std::{env, io};
+
+fn main(rt: HostRuntime) -> ExitCode {
+    let Ok(words) = command_words(&rt) else {
+        return ExitCode::from(Status::OutOfMemory.number());
+    };
+    let mut source = StdSource::new(rt.reader());
+    let mut sink = StdSink::new(io::writer(&rt));
+    let status = run(rt.alloc(), &words, &mut source, &mut sink);
+    ExitCode::from(status.number())
+}
+
+// The words after the program's name. Where one isn't UTF-8 there are none, which no command has.
+fn command_words(rt: &HostRuntime) -> Result<Vec<String>, OutOfMemory> {
+    match env::args(rt) {
+        Ok(words) => words.skip(1).collect(rt.alloc()),
+        Err(error) if error.kind() == io::ErrorKind::OutOfMemory => Err(OutOfMemory),
+        Err(_) => Ok(Vec::new(rt.alloc())),
+    }
+}

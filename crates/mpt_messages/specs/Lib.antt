@@ -1,0 +1,2 @@
+-- All messages together, and their listings.
+pub mod Listing

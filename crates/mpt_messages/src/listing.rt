@@ -1,0 +1,112 @@
+//! The printed fields of a message.
+ghost use Rattle.std.specs.Prelude.{◌≡◌, ◌≤◌, ◌<◌, ◌^◌, ◌++◌, IsTrue, OnOk, map};
+ghost use Rattle.mpi_layout.specs.Rows.{row_shape, values_fit};
+ghost use Rattle.mpt_messages.specs.Listing.{fault_text, heading_text, name_at, row_text, rows_text, short_text, value_text};
+
+use byteorder::{ByteOrder, LittleEndian};
+use mpi_layout::{Fault, Form, Layout, Row};
+use mpt_text::{OutOfMemory, Text};
+
+/// Adds a listing's first line: the message's name and its length in bytes, in decimal.
+pub fn push_heading(text: &mut Text, name: &[u8], bytes: u64) -> Result<(), OutOfMemory>
+    ensures { OnOk result (text.new ≡ text.old ++ heading_text name.now bytes) }
+{
+    text.push(name)?;
+    text.push(b" ")?;
+    text.push_decimal(bytes)?;
+    text.push(b"\n")
+}
+
+/// Adds a line for each row: two digits of its offset, its name, and its value as `0x` and two
+/// digits for each byte, or as the bytes text.
+pub fn push_rows<const N: usize>(
+    text: &mut Text,
+    layout: &Layout<N>,
+    values: &[u64; N],
+) -> Result<(), OutOfMemory>
+    requires profile { N ≤ 64 }
+    requires fitting { IsTrue (values_fit layout.now.rows values.now) }
+    ensures { OnOk result (text.new ≡ text.old ++ rows_text layout.now.rows values.now) }
+{
+    let rows = layout.rows();
+    for i in 0..N {
+        push_row(text, &rows[i], values[i])?;
+    }
+    Ok(())
+}
+
+fn push_row(text: &mut Text, row: &Row, value: u64) -> Result<(), OutOfMemory>
+    requires narrow { (1 ≤ row.now.width) × (row.now.width ≤ 8) }
+    requires small { value < 256 ^ row.now.width }
+    ensures { OnOk result (text.new ≡ text.old ++ row_text (row_shape row.now) value) }
+{
+    text.push_digits(&[row.at])?;
+    text.push(b" ")?;
+    text.push(row.name.as_bytes())?;
+    text.push(b" ")?;
+    push_value(text, row, value)?;
+    text.push(b"\n")
+}
+
+fn push_value(text: &mut Text, row: &Row, value: u64) -> Result<(), OutOfMemory>
+    requires narrow { (1 ≤ row.now.width) × (row.now.width ≤ 8) }
+    requires small { value < 256 ^ row.now.width }
+    ensures { OnOk result (text.new ≡ text.old ++ value_text row.now.form row.now.width value) }
+{
+    match row.form {
+        Form::Number => {
+            text.push(b"0x")?;
+            text.push_hex(value, row.width)
+        }
+        Form::Bytes => {
+            let mut bytes = [0u8; 8];
+            let bytes = &mut bytes[..row.width as usize];
+            LittleEndian::write_uint(bytes, value, row.width as usize);
+            text.push_bytes(bytes)
+        }
+    }
+}
+
+/// Adds the line of a layout's fault: `short need N have M`, or `field OO Name` with the offset and
+/// name of the row.
+pub fn push_fault<const N: usize>(
+    text: &mut Text,
+    layout: &Layout<N>,
+    fault: Fault,
+) -> Result<(), OutOfMemory>
+    ensures { OnOk result (text.new ≡ text.old ++ fault_text layout.now.rows fault) }
+{
+    match fault {
+        Fault::Short { need, have } => push_short(text, need as u64, have as u64),
+        Fault::Field { at } => {
+            text.push(b"field ")?;
+            text.push_digits(&[at])?;
+            text.push(b" ")?;
+            text.push(row_name(layout.rows(), at).as_bytes())?;
+            text.push(b"\n")
+        }
+    }
+}
+
+/// Adds the line of bytes that are too few: `short need N have M`.
+pub fn push_short(text: &mut Text, need: u64, have: u64) -> Result<(), OutOfMemory>
+    ensures { OnOk result (text.new ≡ text.old ++ short_text need have) }
+{
+    text.push(b"short need ")?;
+    text.push_decimal(need)?;
+    text.push(b" have ")?;
+    text.push_decimal(have)?;
+    text.push(b"\n")
+}
+
+// The name of the first row at the offset, or nothing where there is none.
+fn row_name(rows: &'static [Row], at: u8) -> &'static str
+    ensures { result.now ≡ name_at (map row_shape rows.now) at }
+{
+    for row in rows {
+        if row.at == at {
+            return row.name;
+        }
+    }
+    ""
+}
