@@ -6,6 +6,8 @@ mod command;
 mod input;
 mod run;
 mod status;
+#[cfg(test)]
+mod tests;
 
 pub use command::Command;
 use mpt_outside::{StdSink, StdSource};

@@ -1,0 +1,220 @@
+//! Worked runs, with sources and sinks that move pieces of every size and fail at every call.
+ghost use Rattle.std.specs.Prelude.{◌<◌};
+
+use super::*;
+use mpt_outside::{MemorySink, MemorySource, NeverSink, NeverSource};
+use std::alloc::{AllocError, Global};
+use std::test::Fail;
+
+/// TEST UNIT READY for the handle 0x000a, with an element of length 0.
+const TEST_UNIT_READY: &str = "0a000000000000000000000060001000
+00006000180000000000000000000000
+00000000060000000000000000000000
+00000000000000000000000000000000
+00000000000000000000000000000000
+00000000000000000000000000000000
+000000d3ffffffffffffffff
+";
+
+/// Its listing.
+const LISTING: &str = "scsi-io 108
+00 DevHandle 0x000a
+02 ChainOffset 0x00
+03 Function 0x00
+04 Reserved 0x0000
+06 Reserved 0x00
+07 MsgFlags 0x00
+08 VP_ID 0x00
+09 VF_ID 0x00
+0a Reserved 0x0000
+0c SenseBufferLowAddress 0x00100060
+10 SGLFlags 0x0000
+12 SenseBufferLength 0x60
+13 Reserved 0x00
+14 SGLOffset0 0x18
+15 SGLOffset1 0x00
+16 SGLOffset2 0x00
+17 SGLOffset3 0x00
+18 SkipCount 0x00000000
+1c DataLength 0x00000000
+20 BidirectionalDataLength 0x00000000
+24 IoFlags 0x0006
+26 EEDPFlags 0x0000
+28 EEDPBlockSize 0x00000000
+2c SecondaryReferenceTag 0x00000000
+30 SecondaryApplicationTag 0x0000
+32 ApplicationTagTranslationMask 0x0000
+34 LUN 0000000000000000
+3c ControlLow 0x00
+3d ControlAttribute 0x00
+3e ControlHigh 0x00
+3f ControlDirection 0x00
+40 CDB 0000000000000000
+48 CDB 0000000000000000
+50 CDB 0000000000000000
+58 CDB 0000000000000000
+60 SgeLength 0x000000
+63 SgeFlags 0xd3
+64 SgeAddress 0xffffffffffffffff
+";
+
+const USAGE_LINE: &str = "usage: mpt_cli decode <kind> | replay | show | gen <number>\n";
+
+const NO_CALL: u32 = 4_000_000_000;
+
+fn words_of(alloc: Global, line: &str) -> Result<Vec<String>, AllocError> {
+    let mut words = Vec::new(alloc);
+    for word in line.split(' ') {
+        if !word.is_empty() {
+            words.push(String::from_str(alloc, word)?)?;
+        }
+    }
+    Ok(words)
+}
+
+// How a run ends and what was written, where the source and the sink move `piece` bytes at a time
+// and fail at these calls.
+fn outcome(
+    alloc: Global,
+    line: &str,
+    input: &[u8],
+    piece: usize,
+    failing: (u32, u32),
+) -> Result<(Status, Vec<u8>), Fail>
+    requires { 0 < piece }
+{
+    let words = words_of(alloc, line)?;
+    let mut reads = Vec::new(alloc);
+    reads.push(failing.0)?;
+    let mut writes = Vec::new(alloc);
+    writes.push(failing.1)?;
+    let mut source = MemorySource::new(input.to_vec(alloc)?, piece, reads);
+    let mut sink = MemorySink::new(alloc, piece, 4096, writes).map_err(|_| "no memory")?;
+    let status = run(alloc, &words, &mut source, &mut sink);
+    Ok((status, sink.bytes().to_vec(alloc)?))
+}
+
+// The first line of the frame, with two other digits at a place, and its other lines.
+fn with_digits(alloc: Global, frame: &str, place: usize, digits: &str) -> Result<String, Fail> {
+    let front = frame.get(..place).ok_or("no front")?;
+    let back = frame.get(place + 2..).ok_or("no back")?;
+    let mut changed = String::from_str(alloc, front)?;
+    changed.push_str(digits)?;
+    changed.push_str(back)?;
+    Ok(changed)
+}
+
+#[test]
+fn decodes_or_refuses(rt: HostRuntime) -> Result<(), Fail> {
+    let alloc = rt.alloc();
+    let mut longer = String::from_str(alloc, TEST_UNIT_READY)?;
+    longer.push_str("eeeeeeeeeeeeeeeeeeeeeeeeeeeeeeeeeeeeeeee\n")?;
+    let cut = TEST_UNIT_READY.get(..195).ok_or("no front")?;
+    // Byte 13 is the fourth of the second line, behind 32 digits and an LF.
+    let inner = with_digits(alloc, TEST_UNIT_READY, 33 + 6, "01")?;
+    let both = with_digits(alloc, inner.as_str(), 8, "01")?;
+    let function = with_digits(alloc, TEST_UNIT_READY, 6, "01")?;
+    for (line, input, status, text) in [
+        ("decode scsi", TEST_UNIT_READY, Status::Ok, LISTING),
+        ("decode scsi", longer.as_str(), Status::Ok, LISTING),
+        ("decode scsi", "", Status::Refused, "short need 12 have 0\n"),
+        (
+            "decode scsi",
+            cut,
+            Status::Refused,
+            "short need 108 have 95\n",
+        ),
+        (
+            "decode scsi",
+            both.as_str(),
+            Status::Refused,
+            "field 04 Reserved\n",
+        ),
+        (
+            "decode scsi",
+            inner.as_str(),
+            Status::Refused,
+            "field 13 Reserved\n",
+        ),
+        (
+            "decode scsi",
+            function.as_str(),
+            Status::Refused,
+            "function not built\n",
+        ),
+        (
+            "decode scsi",
+            "0a0",
+            Status::Refused,
+            "refused line 1 hex\n",
+        ),
+        (
+            "decode scsi",
+            "0x0a",
+            Status::Refused,
+            "refused line 1 hex\n",
+        ),
+        ("decode", "", Status::Usage, USAGE_LINE),
+        ("", "", Status::Usage, USAGE_LINE),
+        ("gen -1", "", Status::Usage, USAGE_LINE),
+    ] {
+        for piece in [1, 7, 4096] {
+            let (ended, written) = outcome(
+                alloc,
+                line,
+                input.as_bytes(),
+                piece,
+                (NO_CALL, NO_CALL),
+            )?;
+            assert_eq!(rt; ended, status, "{line} {input}");
+            assert_eq!(rt; written.as_slice(), text.as_bytes(), "{line} {input}");
+        }
+    }
+    Ok(())
+}
+
+#[test]
+fn ends_at_faults(rt: HostRuntime) -> Result<(), Fail> {
+    let alloc = rt.alloc();
+    let input = TEST_UNIT_READY.as_bytes();
+    // 223 bytes in pieces of 7 are 32 calls, and one more finds the end.
+    for call in 0..33 {
+        let (ended, written) = outcome(alloc, "decode scsi", input, 7, (call, NO_CALL))?;
+        assert_eq!(rt; ended, Status::ReadFault, "call {call}");
+        assert_eq!(rt;
+            written.as_slice(),
+            b"read fault\n".as_slice(),
+            "call {call}"
+        );
+    }
+    let pieces = LISTING.len().div_ceil(7);
+    for call in 0..pieces {
+        let failing = (NO_CALL, u32::try_from(call).map_err(|_| "too many")?);
+        let (ended, written) = outcome(alloc, "decode scsi", input, 7, failing)?;
+        assert_eq!(rt; ended, Status::WriteFault, "call {call}");
+        let front = LISTING.as_bytes().get(..7 * call).ok_or("no front")?;
+        assert_eq!(rt; written.as_slice(), front, "call {call}");
+    }
+    let (ended, written) = outcome(alloc, "decode", input, 7, (NO_CALL, 0))?;
+    assert_eq!(rt; ended, Status::WriteFault);
+    assert!(rt; written.is_empty());
+    Ok(())
+}
+
+#[test]
+fn keeps_the_limits(rt: HostRuntime) -> Result<(), Fail> {
+    let alloc = rt.alloc();
+    for (byte, count, status) in [
+        (b' ', 33_554_432, Status::Refused),
+        (b' ', 33_554_433, Status::TooLong),
+        (b'\n', 20_000, Status::Refused),
+        (b'\n', 20_001, Status::TooLong),
+        (b'\r', 20_001, Status::Refused),
+    ] {
+        let words = words_of(alloc, "decode scsi")?;
+        let mut source = NeverSource::new(vec![in alloc; byte; count]?, 65_536);
+        let ended = run(alloc, &words, &mut source, &mut NeverSink::new());
+        assert_eq!(rt; ended, status, "{count} of {byte}");
+    }
+    Ok(())
+}
