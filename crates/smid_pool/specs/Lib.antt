@@ -1,0 +1,4 @@
+-- What a pool's contracts say.
+pub mod Class
+pub mod Pool
+pub mod Place
