@@ -1,1 +1,3 @@
 pub mod ScsiIoFields
+pub mod TaskAskFields
+pub mod TaskReplyFields

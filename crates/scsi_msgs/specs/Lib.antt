@@ -1,1 +1,3 @@
 pub mod ScsiIo
+pub mod TaskAsk
+pub mod TaskReply
