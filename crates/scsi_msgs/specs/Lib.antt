@@ -1,3 +1,4 @@
 pub mod ScsiIo
+pub mod ScsiReply
 pub mod TaskAsk
 pub mod TaskReply
