@@ -1,1 +1,4 @@
 pub mod ScsiIo
+pub mod ScsiReply
+pub mod TaskAsk
+pub mod TaskReply

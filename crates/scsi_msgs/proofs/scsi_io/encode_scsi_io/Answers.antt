@@ -1,6 +1,6 @@
-use Rattle.std.proofs.Common.{IsTrue, ◌≡◌, ◌≤◌, List, ℕ, length, drop, subst, sym, lit<, lit≤, ◌∙◌}
-use Rattle.mpi_layout.specs.Rows.{Shape, Stands, values_fit}
-use Rattle.scsi_msgs.specs.ScsiIo.{scsi_io_layout, scsi_io_values}
+use Rattle.std.proofs.Common.{IsTrue, ◌≡◌, ◌≤◌, length, drop, subst, sym, lit<, lit≤}
+use Rattle.mpi_layout.specs.Rows.{Shape, values_fit}
+use Rattle.scsi_msgs.specs.ScsiIo.{scsi_io_layout}
 use Rattle.scsi_msgs.proofs.scsi_io.encode_scsi_io.Goals as goal
 
 pub write-requires : goal.write-requires

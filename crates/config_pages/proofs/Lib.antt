@@ -1,0 +1,3 @@
+pub mod ConfigAskFields
+pub mod ConfigReplyFields
+pub mod DevicePage0Fields

@@ -1,0 +1,6 @@
+use Rattle.config_pages.specs.ConfigReply.{config_reply_values}
+use Rattle.config_pages.proofs.config_reply.ConfigReply.values.Goals as goal
+
+pub returns : goal.returns
+unfolding config_reply_values
+returns c = cc

@@ -1,0 +1,3 @@
+pub mod EventAskFields
+pub mod EventAckFields
+pub mod EventAckReplyFields

@@ -1,0 +1,6 @@
+use Rattle.event_msgs.specs.EventAck.{event_ack_values}
+use Rattle.event_msgs.proofs.event_ack.EventAck.values.Goals as goal
+
+pub returns : goal.returns
+unfolding event_ack_values
+returns c = cc

@@ -1,0 +1,7 @@
+use Rattle.std.proofs.Common.{refl}
+use Rattle.event_msgs.specs.EventAckReply.{event_ack_reply_layout, event_ack_reply_values}
+use Rattle.event_msgs.proofs.event_ack_reply.EventAckReply.from_values.Goals as goal
+
+pub returns : goal.returns
+unfolding event_ack_reply_layout event_ack_reply_values
+returns c = refl

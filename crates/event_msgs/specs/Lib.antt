@@ -1,0 +1,3 @@
+pub mod EventAsk
+pub mod EventAck
+pub mod EventAckReply

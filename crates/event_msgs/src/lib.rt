@@ -1,0 +1,12 @@
+//! The event messages, and the SAS topology change list.
+#![tactic(auto)]
+
+mod event_ack;
+mod event_ack_reply;
+mod event_ask;
+
+pub use event_ack::{EventAck, decode_event_ack, encode_event_ack, event_ack_fits};
+pub use event_ack_reply::{
+    EventAckReply, decode_event_ack_reply, encode_event_ack_reply, event_ack_reply_fits,
+};
+pub use event_ask::{EventAsk, decode_event_ask, encode_event_ask, event_ask_fits};

@@ -1,0 +1,7 @@
+use Rattle.std.proofs.Common.{refl}
+use Rattle.ioc_msgs.specs.IocInit.{ioc_init_layout, ioc_init_values}
+use Rattle.ioc_msgs.proofs.ioc_init.IocInit.from_values.Goals as goal
+
+pub returns : goal.returns
+unfolding ioc_init_layout ioc_init_values
+returns c = refl

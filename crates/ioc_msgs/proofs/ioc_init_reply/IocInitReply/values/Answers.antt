@@ -1,0 +1,6 @@
+use Rattle.ioc_msgs.specs.IocInitReply.{ioc_init_reply_values}
+use Rattle.ioc_msgs.proofs.ioc_init_reply.IocInitReply.values.Goals as goal
+
+pub returns : goal.returns
+unfolding ioc_init_reply_values
+returns c = cc

@@ -1,0 +1,7 @@
+use Rattle.std.proofs.Common.{refl}
+use Rattle.ioc_msgs.specs.PortEnable.{port_enable_layout, port_enable_values}
+use Rattle.ioc_msgs.proofs.port_enable.PortEnable.from_values.Goals as goal
+
+pub returns : goal.returns
+unfolding port_enable_layout port_enable_values
+returns c = refl

@@ -1,0 +1,26 @@
+use Rattle.std.proofs.Common.{IsTrue, ◌≡◌, ◌≤◌, length, drop, subst, sym, lit<, lit≤}
+use Rattle.mpi_layout.specs.Rows.{Shape, values_fit}
+use Rattle.ioc_msgs.specs.PortEnable.{port_enable_layout}
+use Rattle.ioc_msgs.proofs.port_enable.encode_port_enable.Goals as goal
+
+pub write-requires : goal.write-requires
+unfolding port_enable_layout
+write-requires c =
+    let fitting = subst (λ xs. IsTrue (values_fit (port_enable_layout).rows xs)) (sym c.values.ensures) c.requires.fitting in (
+      lit< tt,
+      (
+        lit< tt,
+        (
+          lit≤ tt,
+          (
+            subst (λ (s : Shape). IsTrue (values_fit s.rows c.values.result)) (sym c.layout.ensures) fitting,
+            subst (λ (s : Shape). s.length ≤ length c.args.out.now) (sym c.layout.ensures) c.requires.room,
+          ),
+        ),
+      ),
+    )
+
+pub returns-clause-rest : goal.returns-clause-rest
+unfolding port_enable_layout
+returns-clause-rest c =
+    subst (λ (s : Shape). drop s.length c.write.new.out ≡ drop s.length c.args.out.now) c.layout.ensures c.write.ensures.rest

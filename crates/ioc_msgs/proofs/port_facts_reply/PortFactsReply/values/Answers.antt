@@ -1,0 +1,6 @@
+use Rattle.ioc_msgs.specs.PortFactsReply.{port_facts_reply_values}
+use Rattle.ioc_msgs.proofs.port_facts_reply.PortFactsReply.values.Goals as goal
+
+pub returns : goal.returns
+unfolding port_facts_reply_values
+returns c = cc

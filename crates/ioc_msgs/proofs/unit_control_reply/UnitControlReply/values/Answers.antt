@@ -1,0 +1,6 @@
+use Rattle.ioc_msgs.specs.UnitControlReply.{unit_control_reply_values}
+use Rattle.ioc_msgs.proofs.unit_control_reply.UnitControlReply.values.Goals as goal
+
+pub returns : goal.returns
+unfolding unit_control_reply_values
+returns c = cc

@@ -1,0 +1,10 @@
+pub mod IocFacts
+pub mod IocFactsReply
+pub mod IocInit
+pub mod IocInitReply
+pub mod PortFacts
+pub mod PortFactsReply
+pub mod PortEnable
+pub mod PortEnableReply
+pub mod UnitControl
+pub mod UnitControlReply

@@ -1,0 +1,127 @@
+//! A Port Enable request.
+ghost use Rattle.std.specs.Prelude.{◌≡◌, ◌≤◌, IsTrue, IfOk, MatchResult, Ok, Some, length, drop};
+ghost use Rattle.mpi_layout.specs.Rows.{cut_from, first_fault, values_fit};
+ghost use Rattle.ioc_msgs.specs.PortEnable.{PortEnableStands, port_enable_layout, port_enable_values};
+
+use mpi_layout::{Fault, Layout, Row, Rule, fits, low, number, read, write};
+
+// mpi2_ioc.h, MPI2_PORT_ENABLE_REQUEST.
+static PORT_ENABLE_ROWS: [Row; 10] = [
+    number!(0x00, 2, "Reserved", Rule::Zero),
+    number!(0x02, 1, "ChainOffset", Rule::Zero),
+    number!(0x03, 1, "Function", Rule::Is(0x06)),
+    number!(0x04, 1, "Reserved", Rule::Zero),
+    number!(0x05, 1, "PortFlags", Rule::Any),
+    number!(0x06, 1, "Reserved", Rule::Zero),
+    number!(0x07, 1, "MsgFlags", Rule::Zero),
+    number!(0x08, 1, "VP_ID", Rule::Zero),
+    number!(0x09, 1, "VF_ID", Rule::Zero),
+    number!(0x0a, 2, "Reserved", Rule::Zero),
+];
+
+/// A Port Enable request (mpi2_ioc.h, MPI2_PORT_ENABLE_REQUEST): asks the controller to begin
+/// discovery. 12 bytes.
+#[derive(Clone, Copy, Debug, PartialEq, Eq)]
+pub struct PortEnable {
+    /// Reserved, 0.
+    pub reserved_00: u16,
+    /// Where a chain element lies, in dwords; 0 for none.
+    pub chain_offset: u8,
+    /// The message's function: 06, Port Enable.
+    pub function: u8,
+    /// Reserved, 0.
+    pub reserved_04: u8,
+    /// Flags of the port.
+    pub port_flags: u8,
+    /// Reserved, 0.
+    pub reserved_06: u8,
+    /// Flags of the message, 0.
+    pub msg_flags: u8,
+    /// The virtual port, 0.
+    pub vp_id: u8,
+    /// The virtual function, 0.
+    pub vf_id: u8,
+    /// Reserved, 0.
+    pub reserved_0a: u16,
+}
+
+impl PortEnable {
+    /// The layout: 10 rows, 12 bytes.
+    pub fn layout() -> Layout<10>
+        ensures { result ≡ port_enable_layout }
+    {
+        Layout::new(&PORT_ENABLE_ROWS, 12)
+    }
+
+    /// The fields' numbers in the layout's order.
+    pub fn values(&self) -> [u64; 10]
+        ensures { result ≡ port_enable_values self.now }
+    {
+        [
+            u64::from(self.reserved_00),
+            u64::from(self.chain_offset),
+            u64::from(self.function),
+            u64::from(self.reserved_04),
+            u64::from(self.port_flags),
+            u64::from(self.reserved_06),
+            u64::from(self.msg_flags),
+            u64::from(self.vp_id),
+            u64::from(self.vf_id),
+            u64::from(self.reserved_0a),
+        ]
+    }
+
+    // The message whose fields are the low bytes of these numbers.
+    fn from_values(values: &[u64; 10]) -> PortEnable
+        ensures { port_enable_values result ≡ cut_from port_enable_layout.rows values.now 0 }
+    {
+        PortEnable {
+            reserved_00: low!(values[0], 2),
+            chain_offset: low!(values[1], 1),
+            function: low!(values[2], 1),
+            reserved_04: low!(values[3], 1),
+            port_flags: low!(values[4], 1),
+            reserved_06: low!(values[5], 1),
+            msg_flags: low!(values[6], 1),
+            vp_id: low!(values[7], 1),
+            vf_id: low!(values[8], 1),
+            reserved_0a: low!(values[9], 2),
+        }
+    }
+}
+
+/// Reads the message from the front of the bytes: the message that they stand for, or their first
+/// fault. Bytes past the message play no part.
+///
+/// # Errors
+/// `Short` exactly where there are fewer than 12 bytes; else `Field` with the least offset whose
+/// row breaks its rule.
+pub fn decode_port_enable(bytes: &[u8]) -> Result<PortEnable, Fault>
+    ensures read { MatchResult result (λ m. PortEnableStands m bytes.now)
+        (λ fault. first_fault port_enable_layout bytes.now ≡ Some fault) }
+    ensures only { (m : PortEnable) → PortEnableStands m bytes.now → result ≡ Ok m }
+    ensures fitting { IfOk result (λ m. IsTrue (values_fit port_enable_layout.rows (port_enable_values m))) }
+{
+    let values = read(&PortEnable::layout(), bytes)?;
+    Ok(PortEnable::from_values(&values))
+}
+
+/// Whether each field fits its row's width and rule, so that some bytes stand for the message.
+pub fn port_enable_fits(m: &PortEnable) -> bool
+    ensures { result ≡ values_fit port_enable_layout.rows (port_enable_values m.now) }
+{
+    fits(&PortEnable::layout(), &m.values())
+}
+
+/// Writes the message's 12 bytes, from which it is read back, and gives their number. The bytes
+/// past them stay.
+pub fn encode_port_enable(m: &PortEnable, out: &mut [u8]) -> usize
+    requires fitting { IsTrue (values_fit port_enable_layout.rows (port_enable_values m.now)) }
+    requires room { 12 ≤ length out.old }
+    ensures long { result ≡ 12 }
+    ensures stands { PortEnableStands m.now out.new }
+    ensures rest { drop 12 out.new ≡ drop 12 out.old }
+{
+    write(&PortEnable::layout(), &m.values(), out);
+    12
+}

@@ -1,0 +1,121 @@
+//! A Port Facts request.
+ghost use Rattle.std.specs.Prelude.{◌≡◌, ◌≤◌, IsTrue, IfOk, MatchResult, Ok, Some, length, drop};
+ghost use Rattle.mpi_layout.specs.Rows.{cut_from, first_fault, values_fit};
+ghost use Rattle.ioc_msgs.specs.PortFacts.{PortFactsStands, port_facts_layout, port_facts_values};
+
+use mpi_layout::{Fault, Layout, Row, Rule, fits, low, number, read, write};
+
+// mpi2_ioc.h, MPI2_PORT_FACTS_REQUEST.
+static PORT_FACTS_ROWS: [Row; 9] = [
+    number!(0x00, 2, "Reserved", Rule::Zero),
+    number!(0x02, 1, "ChainOffset", Rule::Zero),
+    number!(0x03, 1, "Function", Rule::Is(0x05)),
+    number!(0x04, 2, "Reserved", Rule::Zero),
+    number!(0x06, 1, "PortNumber", Rule::Any),
+    number!(0x07, 1, "MsgFlags", Rule::Zero),
+    number!(0x08, 1, "VP_ID", Rule::Zero),
+    number!(0x09, 1, "VF_ID", Rule::Zero),
+    number!(0x0a, 2, "Reserved", Rule::Zero),
+];
+
+/// A Port Facts request (mpi2_ioc.h, MPI2_PORT_FACTS_REQUEST): asks for what a port is. 12 bytes.
+#[derive(Clone, Copy, Debug, PartialEq, Eq)]
+pub struct PortFacts {
+    /// Reserved, 0.
+    pub reserved_00: u16,
+    /// Where a chain element lies, in dwords; 0 for none.
+    pub chain_offset: u8,
+    /// The message's function: 05, Port Facts.
+    pub function: u8,
+    /// Reserved, 0.
+    pub reserved_04: u16,
+    /// The port's number.
+    pub port_number: u8,
+    /// Flags of the message, 0.
+    pub msg_flags: u8,
+    /// The virtual port, 0.
+    pub vp_id: u8,
+    /// The virtual function, 0.
+    pub vf_id: u8,
+    /// Reserved, 0.
+    pub reserved_0a: u16,
+}
+
+impl PortFacts {
+    /// The layout: 9 rows, 12 bytes.
+    pub fn layout() -> Layout<9>
+        ensures { result ≡ port_facts_layout }
+    {
+        Layout::new(&PORT_FACTS_ROWS, 12)
+    }
+
+    /// The fields' numbers in the layout's order.
+    pub fn values(&self) -> [u64; 9]
+        ensures { result ≡ port_facts_values self.now }
+    {
+        [
+            u64::from(self.reserved_00),
+            u64::from(self.chain_offset),
+            u64::from(self.function),
+            u64::from(self.reserved_04),
+            u64::from(self.port_number),
+            u64::from(self.msg_flags),
+            u64::from(self.vp_id),
+            u64::from(self.vf_id),
+            u64::from(self.reserved_0a),
+        ]
+    }
+
+    // The message whose fields are the low bytes of these numbers.
+    fn from_values(values: &[u64; 9]) -> PortFacts
+        ensures { port_facts_values result ≡ cut_from port_facts_layout.rows values.now 0 }
+    {
+        PortFacts {
+            reserved_00: low!(values[0], 2),
+            chain_offset: low!(values[1], 1),
+            function: low!(values[2], 1),
+            reserved_04: low!(values[3], 2),
+            port_number: low!(values[4], 1),
+            msg_flags: low!(values[5], 1),
+            vp_id: low!(values[6], 1),
+            vf_id: low!(values[7], 1),
+            reserved_0a: low!(values[8], 2),
+        }
+    }
+}
+
+/// Reads the message from the front of the bytes: the message that they stand for, or their first
+/// fault. Bytes past the message play no part.
+///
+/// # Errors
+/// `Short` exactly where there are fewer than 12 bytes; else `Field` with the least offset whose
+/// row breaks its rule.
+pub fn decode_port_facts(bytes: &[u8]) -> Result<PortFacts, Fault>
+    ensures read { MatchResult result (λ m. PortFactsStands m bytes.now)
+        (λ fault. first_fault port_facts_layout bytes.now ≡ Some fault) }
+    ensures only { (m : PortFacts) → PortFactsStands m bytes.now → result ≡ Ok m }
+    ensures fitting { IfOk result (λ m. IsTrue (values_fit port_facts_layout.rows (port_facts_values m))) }
+{
+    let values = read(&PortFacts::layout(), bytes)?;
+    Ok(PortFacts::from_values(&values))
+}
+
+/// Whether each field fits its row's width and rule, so that some bytes stand for the message.
+pub fn port_facts_fits(m: &PortFacts) -> bool
+    ensures { result ≡ values_fit port_facts_layout.rows (port_facts_values m.now) }
+{
+    fits(&PortFacts::layout(), &m.values())
+}
+
+/// Writes the message's 12 bytes, from which it is read back, and gives their number. The bytes
+/// past them stay.
+pub fn encode_port_facts(m: &PortFacts, out: &mut [u8]) -> usize
+    requires fitting { IsTrue (values_fit port_facts_layout.rows (port_facts_values m.now)) }
+    requires room { 12 ≤ length out.old }
+    ensures long { result ≡ 12 }
+    ensures stands { PortFactsStands m.now out.new }
+    ensures rest { drop 12 out.new ≡ drop 12 out.old }
+{
+    write(&PortFacts::layout(), &m.values(), out);
+    12
+}
