@@ -6,10 +6,10 @@ ghost use Rattle.removal.specs.Handles.{IsHandle, all_absent, phase_at, with_pha
 use crate::phase::{Address, Handle, Phase, Smid};
 use std::marker::Model;
 
-/// The least handle of the table. Below it are the controller's own.
+/// The least handle that a disk gets.
 pub const FIRST_HANDLE: Handle = 0x0009;
 
-/// The greatest handle of the table.
+/// The greatest handle that a disk gets.
 pub const LAST_HANDLE: Handle = 0x0048;
 
 const HANDLES: usize = 64;
