@@ -3,7 +3,6 @@ ghost use Rattle.std.specs.Prelude.{◌≡◌, ◌≤◌, ◌<◌, ◌^◌, ◌+
 ghost use Rattle.mpi_layout.specs.Rows.{row_shape, values_fit};
 ghost use Rattle.mpt_messages.specs.Listing.{fault_text, heading_text, name_at, row_text, rows_text, short_text, value_text};
 
-use byteorder::{ByteOrder, LittleEndian};
 use mpi_layout::{Fault, Form, Layout, Row};
 use mpt_text::{OutOfMemory, Text};
 
@@ -24,8 +23,7 @@ pub fn push_rows<const N: usize>(
     layout: &Layout<N>,
     values: &[u64; N],
 ) -> Result<(), OutOfMemory>
-    requires profile { N ≤ 64 }
-    requires fitting { IsTrue (values_fit layout.now.rows values.now) }
+    requires { N ≤ 64 }
     ensures { OnOk result (text.new ≡ text.old ++ rows_text layout.now.rows values.now) }
 {
     let rows = layout.rows();
@@ -36,8 +34,7 @@ pub fn push_rows<const N: usize>(
 }
 
 fn push_row(text: &mut Text, row: &Row, value: u64) -> Result<(), OutOfMemory>
-    requires narrow { (1 ≤ row.now.width) × (row.now.width ≤ 8) }
-    requires small { value < 256 ^ row.now.width }
+    requires { row.now.width ≤ 8 }
     ensures { OnOk result (text.new ≡ text.old ++ row_text (row_shape row.now) value) }
 {
     text.push_digits(&[row.at])?;
@@ -49,8 +46,7 @@ fn push_row(text: &mut Text, row: &Row, value: u64) -> Result<(), OutOfMemory>
 }
 
 fn push_value(text: &mut Text, row: &Row, value: u64) -> Result<(), OutOfMemory>
-    requires narrow { (1 ≤ row.now.width) × (row.now.width ≤ 8) }
-    requires small { value < 256 ^ row.now.width }
+    requires { row.now.width ≤ 8 }
     ensures { OnOk result (text.new ≡ text.old ++ value_text row.now.form row.now.width value) }
 {
     match row.form {
@@ -59,10 +55,8 @@ fn push_value(text: &mut Text, row: &Row, value: u64) -> Result<(), OutOfMemory>
             text.push_hex(value, row.width)
         }
         Form::Bytes => {
-            let mut bytes = [0u8; 8];
-            let bytes = &mut bytes[..row.width as usize];
-            LittleEndian::write_uint(bytes, value, row.width as usize);
-            text.push_bytes(bytes)
+            let bytes = value.to_le_bytes();
+            text.push_bytes(&bytes[..row.width as usize])
         }
     }
 }

@@ -1,7 +1,7 @@
 //! Reading a source to its end.
-ghost use Rattle.std.specs.Prelude.{◌≡◌, ℕ, ◌+◌, ◌<◌, ◌≤◌, List, false, ◌++◌, length, vec_len, IsTrue, IfOk, IfErr, IfSome, OnOk, IsErrOf};
+ghost use Rattle.std.specs.Prelude.{◌≡◌, ◌↔◌, ℕ, ◌+◌, ◌<◌, ◌≤◌, List, false, ◌++◌, length, vec_len, IsTrue, IfOk, IfErr, IfSome, OnOk, IsErrOf};
 ghost use Rattle.std.specs.Io.KnownBytes.{IsAtEnd};
-ghost use Rattle.mpt_outside.specs.Counts.{Rose, NeverFalls};
+ghost use Rattle.mpt_outside.specs.Counts.{last_count, Rose, NeverFalls};
 ghost use Rattle.mpt_outside.specs.Reading.{Came, StoppedAfter};
 
 use crate::errors::Failed;
@@ -62,6 +62,10 @@ pub fn read_all<S: Source>(
     ensures told { IfOk result (λ bytes. IfSome (S.left source.old) (λ left. bytes.items ≡ left)) }
     ensures too_long { IsErrOf result ReadFault.TooLong
         → IfSome (S.left source.old) (λ left. limit < length left) }
+
+    // Of a source that had given nothing: its end is too far exactly where it gave more than the limit.
+    ensures exactly { S.given source.old ≡ 0 → limit < last_count
+        → (IsErrOf result ReadFault.TooLong ↔ (limit < S.given source.new)) }
 
     // Of the source's faults.
     ensures failed { IsErrOf result ReadFault.Failed → Rose (S.faults source.old) (S.faults source.new) }

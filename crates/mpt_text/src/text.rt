@@ -1,10 +1,9 @@
 //! A text that grows at its end.
-ghost use Rattle.std.specs.Prelude.{◌≡◌, ◌==◌, ◌≤◌, ◌<◌, ◌^◌, ◌++◌, [], length, decimal, OnOk, OnErr};
+ghost use Rattle.std.specs.Prelude.{◌≡◌, ◌==◌, ◌≤◌, ◌++◌, [], length, decimal, OnOk, OnErr};
 ghost use Rattle.std.specs.List.{list_all};
 ghost use Rattle.hex.specs.Hex.{encode_lower};
 ghost use Rattle.mpt_text.specs.Words.{bytes_text, hex_number, is_run, run_text};
 
-use byteorder::{BigEndian, ByteOrder};
 use itoa::Buffer;
 use std::alloc::Global;
 use std::marker::Model;
@@ -70,18 +69,15 @@ impl Text {
         self.push(digits.as_bytes())
     }
 
-    /// Adds a number of so many bytes, from 1 to 8, in hexadecimal: two digits for each byte, the
-    /// highest first.
+    /// Adds the lowest bytes of a number, so many, from 1 to 8, in hexadecimal: two digits for each
+    /// byte, the highest first.
     pub fn push_hex(&mut self, number: u64, width: u8) -> Result<(), OutOfMemory>
-        requires narrow { (1 ≤ width) × (width ≤ 8) }
-        requires small { number < 256 ^ width }
+        requires { width ≤ 8 }
         ensures ok { OnOk result (self.new ≡ self.old ++ hex_number width number) }
         ensures err { OnErr result (self.new ≡ self.old) }
     {
-        let mut bytes = [0u8; 8];
-        let bytes = &mut bytes[..width as usize];
-        BigEndian::write_uint(bytes, number, width as usize);
-        self.push_digits(bytes)
+        let bytes = number.to_be_bytes();
+        self.push_digits(&bytes[8 - width as usize..])
     }
 
     /// Adds the bytes text: `-` for none; for at least 16 equal bytes their decimal count, `*` and
