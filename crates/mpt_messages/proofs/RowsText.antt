@@ -5,9 +5,8 @@ use Rattle.std.proofs.Math.ListN.{get_or-map}
 use Rattle.std.proofs.lemmas.List.{flat_map_more, length-map, take_all, take_more}
 use Rattle.std.proofs.lemmas.Slice.Zip.{get_or-zip, length-zip}
 use Rattle.mpi_layout.specs.declared.row.Row.{Row}
-use Rattle.mpi_layout.specs.Rows.{RowShape, Shape, IsTiled, row_shape, values_fit}
+use Rattle.mpi_layout.specs.Rows.{RowShape, Shape, IsTiled, row_shape}
 use Rattle.mpi_layout.proofs.Tiling.{LiesIn, code_row}
-use Rattle.mpi_layout.proofs.Writing.{code_small}
 use Rattle.mpt_messages.specs.Listing.{row_text, rows_text}
 
 abbrev pair_text : RowShape × ℕ → List ℕ
@@ -34,13 +33,8 @@ listed_all rows values before text i all so_far =
     let whole : length (zip rows values) ≤ i = rw (length-zip rows values) (omega arith) in
     so_far ∙ ap (λ ps. before ++ flat_map pair_text ps) (take_all i (zip rows values) whole)
 
--- a row of the code is from 1 to 8 bytes wide
-pub row_wide : (code : List Row) (layout : Shape) (i : ℕ) (d : Row) → map row_shape code ≡ layout.rows → IsTiled layout → i < length code → (1 ≤ (get_or code i d).width) × ((get_or code i d).width ≤ 8)
-row_wide code layout i d same tiled less =
+-- a row of the code is at most 8 bytes wide
+pub row_narrow : (code : List Row) (layout : Shape) (i : ℕ) (d : Row) → map row_shape code ≡ layout.rows → IsTiled layout → i < length code → (get_or code i d).width ≤ 8
+row_narrow code layout i d same tiled less =
     let lies = code_row 0 layout.length code i d (rw same tiled) less in
-    (lies.wide, lies.narrow)
-
--- and its value fits it
-pub row_small : (code : List Row) (layout : Shape) (values : List ℕ) (i : ℕ) (d : Row) → map row_shape code ≡ layout.rows → IsTrue (values_fit layout.rows values) → i < length code → i < length values → get_or values i 0 < 256 ^ (get_or code i d).width
-row_small code layout values i d same fitting less room =
-    code_small code values i d (subst (λ (rows : List RowShape). IsTrue (values_fit rows values)) (sym same) fitting) less room
+    lies.narrow

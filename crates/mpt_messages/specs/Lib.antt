@@ -1,2 +1,4 @@
 -- All messages together, and their listings.
+pub mod Function
 pub mod Listing
+pub mod Message

@@ -26,6 +26,10 @@ row_text row value = encode_lower (row.at ∷ []) ++ codes " " ++ row.name ++ co
 abbrev pub rows_text : List RowShape → List ℕ → List ℕ
 rows_text rows values = flat_map (λ (p : RowShape × ℕ). row_text p.0 p.1) (zip rows values)
 
+-- a message's tail: two digits of its offset and the bytes text
+abbrev pub tail_text : ℕ → List ℕ → List ℕ
+tail_text at bytes = encode_lower (at ∷ []) ++ codes " Tail " ++ bytes_text bytes ++ line_end
+
 -- the first line: the name and the length in bytes
 abbrev pub heading_text : List ℕ → ℕ → List ℕ
 heading_text name bytes = name ++ codes " " ++ decimal bytes ++ line_end

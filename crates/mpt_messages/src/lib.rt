@@ -1,6 +1,10 @@
 //! All messages of the profile together, and their listings.
 #![tactic(auto)]
 
+mod function;
 mod listing;
+mod message;
 
-pub use listing::{push_fault, push_heading, push_rows, push_short};
+pub use function::{Function, Kind};
+pub use listing::{push_fault, push_heading, push_rows, push_short, push_tail};
+pub use message::{Message, encode, list_text, message_fits};

@@ -1,7 +1,9 @@
 //! The printed fields of a message.
 ghost use Rattle.std.specs.Prelude.{◌≡◌, ◌≤◌, ◌<◌, ◌^◌, ◌++◌, IsTrue, OnOk, map};
 ghost use Rattle.mpi_layout.specs.Rows.{row_shape, values_fit};
-ghost use Rattle.mpt_messages.specs.Listing.{fault_text, heading_text, name_at, row_text, rows_text, short_text, value_text};
+ghost use Rattle.byteorder.specs.Endian.{little_bytes};
+ghost use Rattle.mpt_text.specs.Words.{bytes_text};
+ghost use Rattle.mpt_messages.specs.Listing.{fault_text, heading_text, name_at, row_text, rows_text, short_text, tail_text, value_text};
 
 use mpi_layout::{Fault, Form, Layout, Row};
 use mpt_text::{OutOfMemory, Text};
@@ -54,11 +56,27 @@ fn push_value(text: &mut Text, row: &Row, value: u64) -> Result<(), OutOfMemory>
             text.push(b"0x")?;
             text.push_hex(value, row.width)
         }
-        Form::Bytes => {
-            let bytes = value.to_le_bytes();
-            text.push_bytes(&bytes[..row.width as usize])
-        }
+        Form::Bytes => push_little(text, value, row.width),
     }
+}
+
+// Adds the bytes text of the lowest bytes of a number, the lowest first.
+fn push_little(text: &mut Text, value: u64, width: u8) -> Result<(), OutOfMemory>
+    requires { width ≤ 8 }
+    ensures { OnOk result (text.new ≡ text.old ++ bytes_text (little_bytes width value)) }
+{
+    let bytes = value.to_le_bytes();
+    text.push_bytes(&bytes[..width as usize])
+}
+
+/// Adds the line of a message's tail: two digits of its offset, `Tail` and the bytes text.
+pub fn push_tail(text: &mut Text, at: u8, bytes: &[u8]) -> Result<(), OutOfMemory>
+    ensures { OnOk result (text.new ≡ text.old ++ tail_text at bytes.now) }
+{
+    text.push_digits(&[at])?;
+    text.push(b" Tail ")?;
+    text.push_bytes(bytes)?;
+    text.push(b"\n")
 }
 
 /// Adds the line of a layout's fault: `short need N have M`, or `field OO Name` with the offset and

@@ -150,10 +150,10 @@ impl ScsiReply {
 
     /// The bytes of the tail that the reply has: those from 40 up to its length.
     pub fn tail_bytes(&self) -> &[u8]
-        requires { IsTrue (scsi_reply_fit self.now) }
         ensures { result.now ≡ take (scsi_reply_length self.now - 40) self.now.tail }
     {
-        &self.tail[..self.length() - FIXED]
+        let count = self.length().saturating_sub(FIXED);
+        &self.tail[..count.min(self.tail.len())]
     }
 }
 

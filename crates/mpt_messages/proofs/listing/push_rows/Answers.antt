@@ -1,14 +1,11 @@
 use Rattle.std.proofs.Common.{◌≤◌, length, ap, arith}
 use Rattle.std.proofs.lemmas.List.{length-map}
 use Rattle.mpi_layout.specs.Rows.{row_shape}
-use Rattle.mpt_messages.proofs.RowsText.{listed_all, listed_more, row_small, row_wide}
+use Rattle.mpt_messages.proofs.RowsText.{listed_all, listed_more, row_narrow}
 use Rattle.mpt_messages.proofs.listing.push_rows.Goals as goal
 
-pub push_row-requires-clause-narrow : goal.push_row-requires-clause-narrow
-push_row-requires-clause-narrow g c = row_wide c.rows-rows.result.now c.args.layout.now c.loop-i.i _ c.rows-rows.ensures.same c.rows-rows.ensures.tiled (omega (arith, c.rows-rows.ensures.whole))
-
-pub push_row-requires-clause-small : goal.push_row-requires-clause-small
-push_row-requires-clause-small g c = row_small c.rows-rows.result.now c.args.layout.now c.args.values.now c.loop-i.i _ c.rows-rows.ensures.same c.requires.fitting (omega (arith, c.rows-rows.ensures.whole)) (omega (arith, c.told-values))
+pub push_row-requires : goal.push_row-requires
+push_row-requires g c = row_narrow c.rows-rows.result.now c.args.layout.now c.loop-i.i _ c.rows-rows.ensures.same c.rows-rows.ensures.tiled (omega (arith, c.rows-rows.ensures.whole))
 
 pub loop-i-preserved : goal.loop-i-preserved
 loop-i-preserved g c =
