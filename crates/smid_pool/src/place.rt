@@ -10,8 +10,11 @@ use std::alloc::Global;
 /// The state of an identifier, with the key of an open one's record.
 #[derive(Clone, Copy, Debug)]
 pub enum Place {
+    /// Free.
     Vacant,
+    /// Open, with its record under this key.
     Holding(usize),
+    /// Parked.
     Waiting,
 }
 
