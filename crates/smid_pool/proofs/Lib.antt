@@ -1,2 +1,4 @@
 pub mod Lists
 pub mod Slots
+pub mod VacantBits
+pub mod Marks

@@ -1,18 +1,16 @@
 -- How a change of the places and the records changes the slots.
-use Rattle.std.proofs.Common.{◌≡◌, ◌≢◌, ◌⊎◌, ◌↔◌, ℕ, zero, suc, ◌+◌, ◌-◌, ◌<◌, ◌≤◌, Bool, true, false, not, cond, List, [], ◌∷◌, length, get_or, set, take, drop, map, count_by, replicate, Option, Some, None, option_map, IsSome, refl, sym, ap, ◌∙◌, inl, inr, arith}
+use Rattle.std.proofs.Common.{◌≡◌, ◌≢◌, ℕ, zero, suc, ◌+◌, ◌-◌, ◌<◌, ◌≤◌, Bool, true, false, not, cond, List, [], ◌∷◌, length, get_or, set, take, drop, map, count_by, replicate, Option, Some, None, option_map, IsSome, refl, sym, ap, ◌∙◌, inl, inr, arith}
 use Rattle.std.specs.List.{position}
 use Rattle.std.proofs.lemmas.Bool.{cases_eq, cases_lt}
-use Rattle.std.proofs.lemmas.List.{take-map, drop-map, length-set, length-map, map-set, get_or-replicate, get_or_past, get_or-set_same, get_or-set_other, get_or-take, get_or-drop, length-take, length-drop, length-replicate}
+use Rattle.std.proofs.lemmas.List.{take-map, drop-map, length-map, length-set, map-set, get_or-replicate, get_or_past, get_or-set_same, get_or-set_other, length-replicate}
 use Rattle.std.proofs.Math.ListN.{get_or-map}
-use Rattle.std.proofs.lemmas.List.Quantifiers.{position-Some}
 use Rattle.std.proofs.lemmas.List.Sums.{sum_by-cons, sum_by-set, get_or-le-sum_by}
 use Rattle.slab.specs.Slab.{Slab, get, slab_len, Updates}
 use Rattle.smid_pool.specs.declared.class.Class.{Class}
 use Rattle.smid_pool.specs.declared.place.Place.{Place}
 use Rattle.smid_pool.specs.declared.place.Place.TheVariants.{Vacant, Holding, Waiting}
-use Rattle.smid_pool.specs.declared.class.Class.TheVariants.{ScsiIo, High, Internal}
 use Rattle.smid_pool.specs.Class.{before, size_of}
-use Rattle.smid_pool.specs.Pool.{Slot, Free, Open, Parked, is_free, is_open, slot_of, slots_in, free_count, least_free}
+use Rattle.smid_pool.specs.Pool.{Slot, Free, Open, Parked, is_free, is_open, is_parked, slot_of, slots_in, free_count, least_free}
 use Rattle.smid_pool.specs.Place.{is_vacant, is_holding, place_of, opened, slot_in, IsSound}
 use Rattle.smid_pool.proofs.Lists.{map-set_other, position-map, count_by-map, position_cases}
 
@@ -59,12 +57,6 @@ waiting_is Vacant is not_any = absurd (cc)
 waiting_is (Holding key) is not_any = absurd (not_any key refl)
 waiting_is Waiting is not_any = refl
 
--- what is no vacant place isn't Vacant
-vacant_is : (p : Place) → is_vacant p ≡ true → p ≡ Vacant
-vacant_is Vacant e = refl
-vacant_is (Holding key) e = cc
-vacant_is Waiting e = cc
-
 -- a place is either vacant or holding, or neither
 vacant_and_holding : (places : List Place) → count_by is_vacant places + count_by is_holding places ≤ length places
 vacant_and_holding [] = omega arith
@@ -75,21 +67,6 @@ vacant_and_holding (Holding key ∷ rest) =
 vacant_and_holding (Waiting ∷ rest) =
     omega (arith, vacant_and_holding rest, sum_by-cons (λ p. cond (is_vacant p) 1 0) Waiting rest, sum_by-cons (λ p. cond (is_holding p) 1 0) Waiting rest)
 
--- the identifiers of a class are among the 280
-class_within : (class : Class) → before class + size_of class ≤ 280
-class_within ScsiIo = omega arith
-class_within High = omega arith
-class_within Internal = omega arith
-
--- the first vacant place of a class
-pub vacant_at : (places : List Place) (class : Class) (place : ℕ) → length places ≡ 280 → position is_vacant (take (size_of class) (drop (before class) places)) ≡ Some place → (before class + place < 280) × (get_or places (before class + place) Vacant ≡ Vacant)
-vacant_at places class place size first =
-    let found = position-Some is_vacant (take (size_of class) (drop (before class) places)) place Vacant first in
-    let within : place < size_of class = omega (arith, found.0, length-take (size_of class) (drop (before class) places)) in
-    let same : get_or (take (size_of class) (drop (before class) places)) place Vacant ≡ get_or places (before class + place) Vacant =
-    get_or-take (size_of class) (drop (before class) places) place Vacant within ∙ get_or-drop (before class) places place Vacant in
-    (omega (arith, class_within class), vacant_is (get_or places (before class + place) Vacant) (sym (ap is_vacant same) ∙ found.1))
-
 module _ {R : Type 0} where
   free_in : (records : Slab R) (p : Place) → is_free (slot_in records p) ≡ is_vacant p
   free_in records Vacant = refl
@@ -99,6 +76,24 @@ module _ {R : Type 0} where
       of_found None = refl
       of_found (Some value) = refl
   free_in records Waiting = refl
+
+  -- each slot is free, open or parked
+  partition_of : (slots : List (Slot R)) → count_by is_free slots + count_by is_open slots + count_by is_parked slots ≡ length slots
+  partition_of [] = refl
+  partition_of (slot ∷ rest) =
+      let free = sum_by-cons (λ s. cond (is_free s) 1 0) slot rest in
+      let open_ = sum_by-cons (λ s. cond (is_open s) 1 0) slot rest in
+      let parked = sum_by-cons (λ s. cond (is_parked s) 1 0) slot rest in
+      omega (arith, free, open_, parked, one_of slot, partition_of rest)
+    where
+      one_of : (s : Slot R) → one_if (is_free s) + one_if (is_open s) + one_if (is_parked s) ≡ length (s ∷ [])
+      one_of Free = refl
+      one_of (Open value) = refl
+      one_of Parked = refl
+
+  -- so together they are as many as there are places
+  pub partition : (records : Slab R) (places : List Place) → length places ≡ 280 → count_by is_free (map (slot_in records) places) + count_by is_open (map (slot_in records) places) + count_by is_parked (map (slot_in records) places) ≡ 280
+  partition records places size = partition_of (map (slot_in records) places) ∙ length-map places (slot_in records) ∙ size
 
   -- the slots of a class are those of its places
   slots_in-map : (records : Slab R) (places : List Place) (class : Class) → slots_in class (map (slot_in records) places) ≡ map (slot_in records) (take (size_of class) (drop (before class) places))

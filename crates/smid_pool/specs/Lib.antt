@@ -2,3 +2,4 @@
 pub mod Class
 pub mod Pool
 pub mod Place
+pub mod VacantSet

@@ -1,5 +1,5 @@
 -- How a pool keeps its slots: a place for each identifier, and the records in a slab.
-use Rattle.std.specs.Prelude.{◌≡◌, ℕ, zero, suc, ◌≤◌, Bool, true, false, List, length, slice_index_or, count_by, map, Option, Some, None, IsSome}
+use Rattle.std.specs.Prelude.{◌≡◌, ℕ, zero, suc, ◌≤◌, Bool, true, false, List, length, slice_index_or, count_by, Option, Some, None, IsSome}
 use Rattle.slab.specs.Slab.{Slab, get, slab_len}
 use Rattle.smid_pool.specs.declared.place.Place.{Place}
 use Rattle.smid_pool.specs.declared.place.Place.TheVariants.{Vacant, Holding, Waiting}

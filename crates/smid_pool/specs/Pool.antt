@@ -1,6 +1,6 @@
 -- A pool is the list of its slots: identifier s has the one at place s - 1.
 -- So each of 1 to 280 is free, open or parked, and no two of them at once.
-use Rattle.std.specs.Prelude.{◌≡◌, ℕ, zero, suc, ◌+◌, ◌-◌, Bool, true, false, not, List, [], take, drop, slice_index_or, slice_set, replicate, position, count_by, Option, Some, None, option_map, refl}
+use Rattle.std.specs.Prelude.{◌≡◌, ℕ, zero, suc, ◌+◌, ◌-◌, Bool, true, false, not, List, take, drop, slice_index_or, slice_set, replicate, position, count_by, Option, Some, None, option_map, refl}
 use Rattle.std.specs.Coded.{Coded, code_by, coded_option}
 use Rattle.smid_pool.specs.declared.class.Class.{Class}
 use Rattle.smid_pool.specs.Class.{before, size_of}

@@ -11,6 +11,7 @@ mod place;
 mod pool;
 #[cfg(test)]
 mod tests;
+mod vacant_set;
 
 pub use class::{Class, Smid};
 pub use out_of_memory::OutOfMemory;

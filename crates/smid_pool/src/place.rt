@@ -1,5 +1,5 @@
 //! Where the record of an identifier is.
-ghost use Rattle.std.specs.Prelude.{◌≡◌, ◌≤◌, length, position, count_by, take, drop, replicate, IfOk};
+ghost use Rattle.std.specs.Prelude.{◌≡◌, ◌≤◌, length, count_by, take, drop, replicate, IfOk};
 ghost use Rattle.smid_pool.specs.Class.{before, size_of};
 ghost use Rattle.smid_pool.specs.Place.{is_vacant, place_of};
 
@@ -10,8 +10,11 @@ use std::alloc::Global;
 /// The state of an identifier, with the key of an open one's record.
 #[derive(Clone, Copy, Debug)]
 pub enum Place {
+    /// Free.
     Vacant,
+    /// Open, with its record under this key.
     Holding(usize),
+    /// Parked.
     Waiting,
 }
 
@@ -37,18 +40,6 @@ pub fn place_at(places: &[Place], smid: Smid) -> Place
         Some(index) if index < places.len() => places[index],
         _ => Place::Vacant,
     }
-}
-
-/// The first vacant place of a class, counted from the class's first.
-pub fn first_vacant(places: &[Place], class: Class) -> Option<usize>
-    requires { length places.now ≡ 280 }
-    ensures { result ≡ position is_vacant (take (size_of class) (drop (before class) places.now)) }
-{
-    let start = class.before();
-    let end = start + class.size();
-    places[start..end]
-        .iter()
-        .position(|place| matches!(place, Place::Vacant))
 }
 
 /// How many places of a class are vacant.

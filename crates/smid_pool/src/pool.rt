@@ -1,11 +1,12 @@
 //! The pool of identifiers.
-ghost use Rattle.std.specs.Prelude.{◌≡◌, ◌↔◌, Some, IfOk, IfErr, IsErr, IsSome, IsTrue, OnErr, is_some, length, option_copied};
+ghost use Rattle.std.specs.Prelude.{◌≡◌, ◌↔◌, ◌+◌, Some, IfOk, IfErr, IsErr, IsSome, IsTrue, OnErr, count_by, is_some, length, option_copied};
 ghost use Rattle.smid_pool.specs.Class.{IsIn};
-ghost use Rattle.smid_pool.specs.Pool.{Free, Open, Parked, all_free, free_count, is_open, is_parked, is_taken, least_free, record_of, slot_of, with_slot};
+ghost use Rattle.smid_pool.specs.Pool.{Free, Open, Parked, all_free, free_count, is_free, is_open, is_parked, is_taken, least_free, record_of, slot_of, with_slot};
 
 use crate::class::{COUNT, Class, Smid};
 use crate::out_of_memory::OutOfMemory;
-use crate::place::{Place, first_vacant, place_at, vacant_count, vacant_places, vacate};
+use crate::place::{Place, place_at, vacant_count, vacant_places, vacate};
+use crate::vacant_set::VacantSet;
 use slab::Slab;
 use std::alloc::Global;
 use std::error::Error;
@@ -27,29 +28,31 @@ impl Error for NoIdentifier {}
 /// The identifiers 1 to 280, each free, open with a record of type `R`, or parked. A contract sees
 /// the list of their slots.
 ///
-/// `open` and `free_count` look at the class's identifiers in turn, at most 256; every other call
-/// goes straight to its identifier.
+/// `open` looks at no more than five words of bits, however many identifiers are free. `free_count`
+/// counts the class's identifiers, at most 256. Every other call goes straight to its identifier, but
+/// for `clear`, which goes over all.
 #[derive(Drop)]
 pub struct Pool<R> {
     records: Slab<R>,
     places: Vec<Place>,
+    vacant: VacantSet,
 }
 
 impl<R> Model for Pool<R> {
     ghost use Rattle.std.specs.Prelude.{List, map};
     ghost use Rattle.std.specs.Coded.{coded_list};
-    ghost use Rattle.smid_pool.specs.Class.{IsIn};
     ghost use Rattle.smid_pool.specs.Pool.{Slot, slot_code};
 
     ghost Value = { List (Slot R) };
 
     ghost coded = { coded_list (slot_code R.code) };
 
-    ghost use Rattle.smid_pool.specs.Place.{IsSound, slot_in};
+    ghost use Rattle.smid_pool.specs.Place.{slot_in};
+    ghost use Rattle.smid_pool.specs.VacantSet.{IsConsistent};
 
     ghost view = { λ p. map (slot_in p.records) p.places.items };
 
-    ghost invariant = { λ p. IsSound p.records p.places.items };
+    ghost invariant = { λ p. IsConsistent p.records p.places.items p.vacant.words };
 }
 
 impl<R> Pool<R> {
@@ -59,7 +62,11 @@ impl<R> Pool<R> {
     {
         let places = vacant_places(alloc)?;
         let records = Slab::with_capacity(alloc, COUNT)?;
-        Ok(Pool { records, places })
+        Ok(Pool {
+            records,
+            places,
+            vacant: VacantSet::full(),
+        })
     }
 
     /// Opens the least free identifier of the class, with this record. NoIdentifier, with the
@@ -73,12 +80,12 @@ impl<R> Pool<R> {
         ensures value_returned { IfErr result (λ e. e.1 ≡ value) }
         ensures stays { OnErr result (self.new ≡ self.old) }
     {
-        let Some(place) = first_vacant(&self.places, class) else {
+        let Some(index) = self.vacant.first_in(class) else {
             return Err((NoIdentifier, value));
         };
-        let index = class.before() + place;
         let key = self.records.insert_reserved(value);
         self.places[index] = Place::Holding(key);
+        self.vacant.remove(index);
         Ok(index as u16 + 1)
     }
 
@@ -104,7 +111,9 @@ impl<R> Pool<R> {
         ensures freed { self.new ≡ with_slot smid Free self.old }
     {
         let place = place_at(&self.places, smid);
-        self.places[usize::from(smid) - 1] = Place::Vacant;
+        let index = usize::from(smid) - 1;
+        self.places[index] = Place::Vacant;
+        self.vacant.insert(index);
         match place {
             Place::Holding(key) => Some(self.records.remove(key)),
             _ => None,
@@ -114,7 +123,7 @@ impl<R> Pool<R> {
     /// The record of an identifier. None exactly where it isn't open.
     pub fn get(&self, smid: Smid) -> Option<&R>
         ensures value { option_copied result ≡ record_of (slot_of self.now smid) }
-        ensures open { is_some result ≡ is_open (slot_of self.now smid) }
+        ensures is_open { is_some result ≡ is_open (slot_of self.now smid) }
         ensures taken { IsSome result → IsTrue (is_taken (slot_of self.now smid)) }
     {
         match place_at(&self.places, smid) {
@@ -135,6 +144,7 @@ impl<R> Pool<R> {
     pub fn free_count(&self, class: Class) -> u16
         ensures value { result ≡ free_count class self.now }
         ensures size { length self.now ≡ 280 }
+        ensures partition { count_by is_free self.now + count_by is_open self.now + count_by is_parked self.now ≡ 280 }
     {
         vacant_count(&self.places, class) as u16
     }
@@ -147,5 +157,7 @@ impl<R> Pool<R> {
     {
         vacate(&mut self.places);
         self.records.clear();
+        let vacant = VacantSet::full();
+        self.vacant = vacant;
     }
 }
