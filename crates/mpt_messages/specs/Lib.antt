@@ -1,4 +1,6 @@
 -- All messages together, and their listings.
+pub mod Fault
 pub mod Function
 pub mod Listing
 pub mod Message
+pub mod Refusal
