@@ -4,3 +4,4 @@ pub mod Reading
 pub mod Writing
 pub mod Widths
 pub mod Moves
+pub mod Obeyed

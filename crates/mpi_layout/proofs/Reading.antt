@@ -17,7 +17,7 @@ pub record ReadSoFar (rows : List RowShape) (bytes values : List ℕ) (i : ℕ) 
   pub numbers : take i values ≡ fields (take i rows) bytes
 
 -- nothing passes, so neither does the first nor any behind it
-find_front : {X : Type 0} (p : X → Bool) (x : X) (xs : List X) → find p (x ∷ xs) ≡ None → (p x ≡ false) × (find p xs ≡ None)
+pub find_front : {X : Type 0} (p : X → Bool) (x : X) (xs : List X) → find p (x ∷ xs) ≡ None → (p x ≡ false) × (find p xs ≡ None)
 find_front p x xs none = tested (p x) none where
   tested : (b : Bool) → cond b (Some x) (find p xs) ≡ None → (b ≡ false) × (find p xs ≡ None)
   tested true e = cc
@@ -77,7 +77,7 @@ first_fault-none layout bytes enough found =
     let whole : ltb (length bytes) layout.length ≡ false = grind (arith, nat_tests) in
     rw (whole, found) refl
 
-not_false : (b : Bool) → not b ≡ false → b ≡ true
+pub not_false : (b : Bool) → not b ≡ false → b ≡ true
 not_false b h = grind arith
 
 -- a field is below the power of its width

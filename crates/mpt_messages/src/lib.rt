@@ -7,7 +7,7 @@ mod function;
 mod listing;
 mod message;
 
-pub use decode::{decode_reply, decode_request};
+pub use decode::decode_request;
 pub use fault::MsgFault;
 pub use function::{Function, Kind};
 pub use listing::{push_fault, push_heading, push_rows, push_short, push_tail};

@@ -4,12 +4,29 @@ ghost use Rattle.mpt_messages.specs.Listing.{listing_text};
 ghost use Rattle.mpt_messages.specs.Message.{MessageStands, message_fit, message_length, message_listing, scsi_reply_listing};
 
 use crate::listing::{push_heading, push_rows, push_tail};
-use config_pages::{ConfigAsk, ConfigReply, config_ask_fits, config_reply_fits, encode_config_ask, encode_config_reply};
-use event_msgs::{EventAck, EventAckReply, EventAsk, encode_event_ack, encode_event_ack_reply, encode_event_ask, event_ack_fits, event_ack_reply_fits, event_ask_fits};
-use ioc_msgs::{IocFacts, IocFactsReply, IocInit, IocInitReply, PortEnable, PortEnableReply, PortFacts, PortFactsReply, UnitControl, UnitControlReply, encode_ioc_facts, encode_ioc_facts_reply, encode_ioc_init, encode_ioc_init_reply, encode_port_enable, encode_port_enable_reply, encode_port_facts, encode_port_facts_reply, encode_unit_control, encode_unit_control_reply, ioc_facts_fits, ioc_facts_reply_fits, ioc_init_fits, ioc_init_reply_fits, port_enable_fits, port_enable_reply_fits, port_facts_fits, port_facts_reply_fits, unit_control_fits, unit_control_reply_fits};
-use scsi_msgs::{ScsiIo, ScsiReply, TaskAsk, TaskReply, encode_scsi_io, encode_scsi_reply, encode_task_ask, encode_task_reply, scsi_io_fits, scsi_reply_fits, task_ask_fits, task_reply_fits};
+use config_pages::{
+    ConfigAsk, ConfigReply, config_ask_fits, config_reply_fits, encode_config_ask,
+    encode_config_reply,
+};
+use event_msgs::{
+    EventAck, EventAckReply, EventAsk, encode_event_ack, encode_event_ack_reply, encode_event_ask,
+    event_ack_fits, event_ack_reply_fits, event_ask_fits,
+};
+use ioc_msgs::{
+    IocFacts, IocFactsReply, IocInit, IocInitReply, PortEnable, PortEnableReply, PortFacts,
+    PortFactsReply, UnitControl, UnitControlReply, encode_ioc_facts, encode_ioc_facts_reply,
+    encode_ioc_init, encode_ioc_init_reply, encode_port_enable, encode_port_enable_reply,
+    encode_port_facts, encode_port_facts_reply, encode_unit_control, encode_unit_control_reply,
+    ioc_facts_fits, ioc_facts_reply_fits, ioc_init_fits, ioc_init_reply_fits, port_enable_fits,
+    port_enable_reply_fits, port_facts_fits, port_facts_reply_fits, unit_control_fits,
+    unit_control_reply_fits,
+};
 use mpi_layout::Layout;
 use mpt_text::{OutOfMemory, Text};
+use scsi_msgs::{
+    ScsiIo, ScsiReply, TaskAsk, TaskReply, encode_scsi_io, encode_scsi_reply, encode_task_ask,
+    encode_task_reply, scsi_io_fits, scsi_reply_fits, task_ask_fits, task_reply_fits,
+};
 use std::alloc::Global;
 
 /// A message of the profile.
@@ -148,19 +165,74 @@ fn push_message(text: &mut Text, m: &Message) -> Result<(), OutOfMemory>
         Message::IocFacts(m) => push_plain(text, b"ioc-facts", &IocFacts::layout(), &m.values()),
         Message::ConfigAsk(m) => push_plain(text, b"config", &ConfigAsk::layout(), &m.values()),
         Message::PortFacts(m) => push_plain(text, b"port-facts", &PortFacts::layout(), &m.values()),
-        Message::PortEnable(m) => push_plain(text, b"port-enable", &PortEnable::layout(), &m.values()),
-        Message::EventAsk(m) => push_plain(text, b"event-notification", &EventAsk::layout(), &m.values()),
+        Message::PortEnable(m) => push_plain(
+            text,
+            b"port-enable",
+            &PortEnable::layout(),
+            &m.values(),
+        ),
+        Message::EventAsk(m) => push_plain(
+            text,
+            b"event-notification",
+            &EventAsk::layout(),
+            &m.values(),
+        ),
         Message::EventAck(m) => push_plain(text, b"event-ack", &EventAck::layout(), &m.values()),
-        Message::UnitControl(m) => push_plain(text, b"sas-unit-control", &UnitControl::layout(), &m.values()),
+        Message::UnitControl(m) => push_plain(
+            text,
+            b"sas-unit-control",
+            &UnitControl::layout(),
+            &m.values(),
+        ),
         Message::ScsiReply(m) => push_scsi_reply(text, m),
-        Message::TaskReply(m) => push_plain(text, b"task-mgmt-reply", &TaskReply::layout(), &m.values()),
-        Message::IocInitReply(m) => push_plain(text, b"ioc-init-reply", &IocInitReply::layout(), &m.values()),
-        Message::IocFactsReply(m) => push_plain(text, b"ioc-facts-reply", &IocFactsReply::layout(), &m.values()),
-        Message::ConfigReply(m) => push_plain(text, b"config-reply", &ConfigReply::layout(), &m.values()),
-        Message::PortFactsReply(m) => push_plain(text, b"port-facts-reply", &PortFactsReply::layout(), &m.values()),
-        Message::PortEnableReply(m) => push_plain(text, b"port-enable-reply", &PortEnableReply::layout(), &m.values()),
-        Message::EventAckReply(m) => push_plain(text, b"event-ack-reply", &EventAckReply::layout(), &m.values()),
-        Message::UnitControlReply(m) => push_plain(text, b"sas-unit-control-reply", &UnitControlReply::layout(), &m.values()),
+        Message::TaskReply(m) => push_plain(
+            text,
+            b"task-mgmt-reply",
+            &TaskReply::layout(),
+            &m.values(),
+        ),
+        Message::IocInitReply(m) => push_plain(
+            text,
+            b"ioc-init-reply",
+            &IocInitReply::layout(),
+            &m.values(),
+        ),
+        Message::IocFactsReply(m) => push_plain(
+            text,
+            b"ioc-facts-reply",
+            &IocFactsReply::layout(),
+            &m.values(),
+        ),
+        Message::ConfigReply(m) => push_plain(
+            text,
+            b"config-reply",
+            &ConfigReply::layout(),
+            &m.values(),
+        ),
+        Message::PortFactsReply(m) => push_plain(
+            text,
+            b"port-facts-reply",
+            &PortFactsReply::layout(),
+            &m.values(),
+        ),
+        Message::PortEnableReply(m) => push_plain(
+            text,
+            b"port-enable-reply",
+            &PortEnableReply::layout(),
+            &m.values(),
+        ),
+        Message::EventAckReply(m) => push_plain(
+            text,
+            b"event-ack-reply",
+            &EventAckReply::layout(),
+            &m.values(),
+        ),
+        Message::UnitControlReply(m) => push_plain(
+            text,
+            b"sas-unit-control-reply",
+            &UnitControlReply::layout(),
+            &m.values(),
+        ),
     }
 }
 
