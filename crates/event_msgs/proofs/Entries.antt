@@ -1,5 +1,5 @@
 -- Reading and writing the entries of a SAS topology change list.
-use Rattle.std.proofs.Common.{◌≡◌, ℕ, zero, suc, ◌+◌, ◌-◌, ◌*◌, ◌<◌, ◌≤◌, List, [], ◌∷◌, ◌++◌, length, take, drop, get_or, set, map, replicate, Option, Some, None, Result, Ok, Err, refl, ap, subst, sym, ◌∙◌, append-nil, append_assoc, arith}
+use Rattle.std.proofs.Common.{◌≡◌, ℕ, suc, ◌+◌, ◌-◌, ◌<◌, ◌≤◌, List, [], ◌∷◌, ◌++◌, length, take, drop, set, map, replicate, Option, None, Result, Ok, Err, ap, subst, sym, ◌∙◌, append-nil, append_assoc, arith}
 use Rattle.std.specs.Option.{MatchOption}
 use Rattle.std.specs.List.{range_with_len}
 use Rattle.std.proofs.lemmas.List.{take_rest, set_at, drop_all, drop_at, length-take, length-drop}

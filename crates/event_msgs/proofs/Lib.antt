@@ -6,3 +6,5 @@ pub mod TopologyFields
 pub mod Entries
 pub mod Parts
 pub mod TopologyList
+pub mod EventReplyFields
+pub mod EventBytes

@@ -1,7 +1,7 @@
 -- The fields of a SAS topology change list are its numbers.
-use Rattle.std.proofs.Common.{◌≡◌, ℕ, ◌<◌, ◌≤◌, IsTrue, List, [], ◌∷◌, length, get_or, None, refl, ap, sym, ◌∙◌, arith}
+use Rattle.std.proofs.Common.{◌≡◌, ℕ, ◌≤◌, List, length, get_or, None, ap, ◌∙◌, arith}
 use Rattle.std.proofs.lemmas.Bool.Decides.{nat_tests}
-use Rattle.mpi_layout.specs.Rows.{first_fault, values_fit}
+use Rattle.mpi_layout.specs.Rows.{first_fault}
 use Rattle.event_msgs.specs.declared.topology.Topology.{Topology}
 use Rattle.event_msgs.specs.declared.topology_entry.TopologyEntry.{TopologyEntry}
 use Rattle.event_msgs.specs.Topology.{topology_layout, topology_values}

@@ -1,13 +1,12 @@
 -- Reading and writing a SAS topology change list.
-use Rattle.std.proofs.Common.{◌≡◌, ℕ, ◌+◌, ◌-◌, ◌*◌, ◌<◌, ◌≤◌, Bool, true, false, IsTrue, ◌&&◌, eqb, leb, List, [], ◌++◌, length, take, drop, get_or, map, replicate, Some, refl, ap, subst, sym, ◌∙◌, append-nil, arith}
+use Rattle.std.proofs.Common.{◌≡◌, ℕ, ◌+◌, ◌-◌, ◌*◌, ◌<◌, ◌≤◌, Bool, true, false, IsTrue, ◌&&◌, eqb, leb, List, [], ◌++◌, length, take, drop, get_or, map, replicate, Some, refl, ap, sym, ◌∙◌, append-nil, arith}
 use Rattle.std.specs.List.{list_all, range_with_len}
 use Rattle.std.proofs.lemmas.Bool.Decides.{nat_tests}
-use Rattle.std.proofs.lemmas.List.{drop_at, drop_all, take_rest, get_or-take, length-take, length-drop, length-append, length-replicate}
+use Rattle.std.proofs.lemmas.List.{drop_at, drop_all, length-take, length-drop, length-append}
 use Rattle.std.proofs.lemmas.List.FromFn.{fill_by_all, length-map-range_with_len}
 use Rattle.std.proofs.lemmas.Slice.{take-put_mid_below}
 use borrow.Rule.Slice.PartMut.{put_mid}
 use Rattle.mpi_layout.specs.Rows.{Stands, IsTiled, field, values_fit}
-use Rattle.mpi_layout.specs.declared.fault.Fault.{Fault}
 use Rattle.mpi_layout.specs.declared.fault.Fault.TheVariants.{Field}
 use Rattle.mpi_layout.proofs.Moves.{Stands-same}
 use Rattle.event_msgs.specs.declared.topology.Topology.{Topology}
@@ -15,7 +14,7 @@ use Rattle.event_msgs.specs.declared.topology_entry.TopologyEntry.{TopologyEntry
 use Rattle.event_msgs.specs.Padding.{padded}
 use Rattle.event_msgs.specs.TopologyEntry.{blank, entry_at, is_blank}
 use Rattle.event_msgs.specs.Topology.{TopologyStands, topology_end, topology_fit, topology_layout, topology_refusal, topology_values}
-use Rattle.event_msgs.proofs.Parts.{Stands-front, blank_entries, blanks-pass, both, joined, padded_tail, zeros-pass}
+use Rattle.event_msgs.proofs.Parts.{Stands-front, blank_entries, blanks-pass, joined, padded_tail, zeros-pass}
 use Rattle.event_msgs.proofs.Entries.{entry_kept}
 use Rattle.event_msgs.proofs.TopologyFields.{topology_values-injective}
 

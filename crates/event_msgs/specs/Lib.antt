@@ -4,3 +4,5 @@ pub mod EventAckReply
 pub mod Padding
 pub mod TopologyEntry
 pub mod Topology
+pub mod EventData
+pub mod EventReply

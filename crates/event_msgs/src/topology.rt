@@ -1,5 +1,5 @@
 //! A SAS topology change list.
-ghost use Rattle.std.specs.Prelude.{◌≡◌, ℕ, ◌+◌, ◌-◌, ◌*◌, ◌<◌, ◌≤◌, ◌++◌, IsTrue, MatchResult, Ok, Some, length, take, drop, map, replicate, slice_index_or};
+ghost use Rattle.std.specs.Prelude.{◌≡◌, ℕ, ◌+◌, ◌-◌, ◌*◌, ◌<◌, ◌≤◌, ◌++◌, IsTrue, IfOk, MatchResult, Ok, Some, length, take, drop, map, replicate, slice_index_or};
 ghost use Rattle.std.specs.List.{list_all, range_with_len};
 ghost use Rattle.mpi_layout.specs.Rows.{cut_from, field};
 ghost use Rattle.event_msgs.specs.TopologyEntry.{blank, entry_at, is_blank};
@@ -120,6 +120,15 @@ impl Topology {
     {
         &self.entries[..usize::from(self.num_entries)]
     }
+
+    // The bytes behind the entries in event data of so many bytes.
+    pub(crate) fn tail_bytes(&self, length: usize) -> &[u8]
+        requires few { length ≤ 100 }
+        requires fitting { IsTrue (topology_fit length self.now) }
+        ensures { result.now ≡ take (length - topology_end self.now) self.now.tail }
+    {
+        &self.tail[..length - self.end()]
+    }
 }
 
 // The first entries of the event data, `count` of them, and blank ones behind them.
@@ -140,8 +149,9 @@ fn read_entries(bytes: &[u8], count: usize) -> Result<[TopologyEntry; 22], Fault
 pub(crate) fn read_topology(words: u16, bytes: &[u8]) -> Result<Topology, Fault>
     requires few { words ≤ 25 }
     requires whole { length bytes.now ≡ 4 * words }
-    ensures { MatchResult result (λ t. TopologyStands t bytes.now)
+    ensures read { MatchResult result (λ t. TopologyStands t bytes.now)
         (λ fault. topology_refusal words (field bytes.now 8 1) ≡ Some fault) }
+    ensures fitting { IfOk result (λ t. IsTrue (topology_fit (length bytes.now) t)) }
 {
     if words < 3 {
         return Err(Fault::Field { at: 0x00 });

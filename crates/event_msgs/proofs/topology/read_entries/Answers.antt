@@ -1,4 +1,4 @@
-use Rattle.std.proofs.Common.{◌≡◌, ◌+◌, ◌-◌, ◌*◌, ◌<◌, ◌++◌, ◌∙◌, Ok, List, ℕ, length, take, drop, set, map, replicate, ap, sym, subst, arith}
+use Rattle.std.proofs.Common.{◌≡◌, ◌+◌, ◌-◌, ◌*◌, ◌++◌, ◌∙◌, ℕ, set, map, replicate, ap, arith}
 use Rattle.std.specs.List.{range_with_len}
 use Rattle.event_msgs.specs.declared.topology_entry.TopologyEntry.{TopologyEntry}
 use Rattle.event_msgs.specs.TopologyEntry.{blank, entry_at}

@@ -1,7 +1,5 @@
-use Rattle.std.proofs.Common.{◌≡◌, ◌+◌, ◌-◌, ◌*◌, ◌<◌, ◌≤◌, ◌∙◌, List, ℕ, length, take, drop, get_or, below_more, ap, sym, arith}
-use Rattle.std.proofs.lemmas.List.{length-drop, length-take}
+use Rattle.std.proofs.Common.{◌+◌, ◌-◌, ◌*◌, ◌≤◌, ◌∙◌, ℕ, length, below_more, arith}
 use Rattle.std.proofs.lemmas.Slice.{take-put_mid_below}
-use Rattle.event_msgs.specs.TopologyEntry.{blank, entry_at}
 use Rattle.event_msgs.proofs.Entries.{entry_kept, entry_written}
 use Rattle.event_msgs.proofs.topology.write_entries.Goals as goal
 

@@ -1,9 +1,8 @@
-use Rattle.std.proofs.Common.{◌≡◌, ◌+◌, ◌-◌, ◌*◌, ◌<◌, ◌≤◌, ◌∙◌, get_or, IsTrue, List, ℕ, length, take, drop, ap, sym, subst, lit<, lit≤, arith}
-use Rattle.std.proofs.lemmas.List.{length-take}
+use Rattle.std.proofs.Common.{◌≡◌, ◌+◌, ◌-◌, ◌*◌, ◌<◌, ◌≤◌, ◌∙◌, get_or, IsTrue, ℕ, length, take, ap, sym, subst, lit<, lit≤, arith}
 use borrow.Rule.Slice.PartMut.{put_mid}
 use Rattle.mpi_layout.specs.Rows.{Shape, Stands, values_fit}
 use Rattle.event_msgs.specs.TopologyEntry.{blank, entry_at}
-use Rattle.event_msgs.specs.Topology.{TopologyStands, topology_end, topology_fit, topology_layout, topology_values}
+use Rattle.event_msgs.specs.Topology.{TopologyStands, topology_end, topology_layout, topology_values}
 use Rattle.event_msgs.proofs.TopologyList.{topology_parts, written}
 use Rattle.event_msgs.proofs.topology.write_topology.Goals as goal
 

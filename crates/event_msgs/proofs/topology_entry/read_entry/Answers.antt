@@ -1,5 +1,4 @@
-use Rattle.std.proofs.Common.{◌≡◌, Ok, ap, subst}
-use Rattle.mpi_layout.specs.Rows.{Shape}
+use Rattle.std.proofs.Common.{Ok, ap}
 use Rattle.mpi_layout.proofs.Moves.{read_stands}
 use Rattle.event_msgs.specs.TopologyEntry.{topology_entry_layout, topology_entry_values}
 use Rattle.event_msgs.proofs.Entries.{never_refused}
