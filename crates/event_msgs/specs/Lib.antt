@@ -1,3 +1,8 @@
 pub mod EventAsk
 pub mod EventAck
 pub mod EventAckReply
+pub mod Padding
+pub mod TopologyEntry
+pub mod Topology
+pub mod EventData
+pub mod EventReply
