@@ -1,0 +1,15 @@
+//! The doorbell of an LSI Fusion-MPT adapter (MPI 2.0), both ends.
+#![tactic(auto)]
+
+mod effect;
+mod exchange;
+mod ioc;
+mod padded;
+pub mod registers;
+mod state;
+mod step;
+
+pub use effect::Effect;
+pub use ioc::DoorIoc;
+pub use state::IocState;
+pub use step::DoorStep;
