@@ -3,3 +3,8 @@ pub mod State
 pub mod Handshake
 pub mod Exchange
 pub mod DoorRegisters
+pub mod HostDoor
+pub mod HostHandshake
+pub mod HostReset
+pub mod HostSteps
+pub mod HostView

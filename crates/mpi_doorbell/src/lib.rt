@@ -3,13 +3,16 @@
 
 mod effect;
 mod exchange;
+mod host;
 mod ioc;
 mod padded;
 pub mod registers;
+mod stage;
 mod state;
 mod step;
 
 pub use effect::Effect;
+pub use host::DoorHost;
 pub use ioc::DoorIoc;
 pub use state::IocState;
 pub use step::DoorStep;
