@@ -1,5 +1,5 @@
 -- How an exchange's array goes on as its handshake does.
-use Rattle.std.proofs.Common.{◌≡◌, ℕ, ◌+◌, ◌-◌, ◌*◌, ◌<◌, ◌≤◌, List, ◌++◌, length, take, drop, replicate, slice_range, refl, ap, sym, ◌∙◌, append_assoc, length-append, arith}
+use Rattle.std.proofs.Common.{◌≡◌, ℕ, ◌+◌, ◌-◌, ◌*◌, ◌/◌, ◌%◌, ◌<◌, ◌≤◌, List, ◌++◌, length, take, drop, replicate, slice_range, refl, ap, sym, ◌∙◌, append_assoc, length-append, arith}
 use Rattle.std.proofs.lemmas.Bool.Decides.{nat_tests}
 use Rattle.std.proofs.lemmas.List.{drop-drop, drop-replicate, drop-take, length-take, length-drop, length-take-le, take_at}
 use Rattle.byteorder.specs.Endian.{little_bytes}
@@ -18,10 +18,10 @@ pad_is new message zeros n is zero =
     ∙ ap (λ z. message ++ drop (length message) z) zero
     ∙ ap (λ z. message ++ z) (drop-replicate (length message) n 0)
 
--- a dword is written behind the message
-pub take_written : (n m : ℕ) (bytes w rest : List ℕ) → m ≡ n + 4 → n ≤ length bytes → length w ≡ 4
+-- what is written behind the first n bytes
+take_written : (n m : ℕ) (bytes w rest : List ℕ) → m ≡ n + length w → n ≤ length bytes
     → take m (take n bytes ++ (w ++ rest)) ≡ take n bytes ++ w
-take_written n m bytes w rest to within four =
+take_written n m bytes w rest to within =
     let at : length (take n bytes ++ w) ≡ m = grind (arith, length-append {A = ℕ}, length-take-le {A = ℕ}) in
     ap (take m) (sym (append_assoc (take n bytes) w rest)) ∙ take_at (take n bytes ++ w) rest m at
 
@@ -63,7 +63,7 @@ pub collected : (got at k m dword : ℕ) (bytes buf rest : List ℕ) → at ≡ 
 collected got at k m dword bytes buf rest same to within e =
     ap (λ n. take m (put_mid (4 * n) k bytes buf)) same
     ∙ ap (λ b. take m (put_mid (4 * got) k bytes b)) e
-    ∙ take_written (4 * got) m bytes (little_bytes 4 dword) (rest ++ post_of (4 * got) k bytes) to within refl
+    ∙ take_written (4 * got) m bytes (little_bytes 4 dword) (rest ++ post_of (4 * got) k bytes) to within
 
 pub taken_more : (got missing dword : ℕ) (bytes after : List ℕ) → 1 < missing → after ≡ take (4 * got) bytes ++ little_bytes 4 dword
     → Collects (missing - 1) after ≡ dword_taken (handshake_of (progress.Collects got missing) bytes) dword
@@ -83,3 +83,20 @@ pub asked_now : (got missing dword : ℕ) (bytes after out : List ℕ) → missi
 asked_now got missing dword bytes after out last within e o =
     let n : 4 * (got + 1) ≡ length (take (4 * got) bytes ++ little_bytes 4 dword) = omega (arith, length-append (take (4 * got) bytes) (little_bytes 4 dword), length-take-le (4 * got) bytes within) in
     asked_last missing dword (4 * (got + 1)) (take (4 * got) bytes) out last n (o ∙ ap padded e)
+
+-- a word has the low 16 bits of the value
+same_word : (word value : ℕ) → word ≡ value % 65536 → little_bytes 2 word ≡ little_bytes 2 value
+same_word word value e =
+    let low : word % 256 ≡ value % 256 = omega arith in
+    let high : word / 256 % 256 ≡ value / 256 % 256 = omega arith in
+    cc
+
+-- the reply after a word was written into the array behind it
+pub appended : (words at k m word value : ℕ) (reply buf rest : List ℕ) → at ≡ words → m ≡ 2 * words + 2 → 2 * words ≤ length reply
+    → word ≡ value % 65536 → buf ≡ little_bytes 2 word ++ rest
+    → take m (put_mid (2 * at) k reply buf) ≡ take (2 * words) reply ++ little_bytes 2 value
+appended words at k m word value reply buf rest same to within low e =
+    ap (λ n. take m (put_mid (2 * n) k reply buf)) same
+    ∙ ap (λ b. take m (put_mid (2 * words) k reply b)) e
+    ∙ take_written (2 * words) m reply (little_bytes 2 word) (rest ++ post_of (2 * words) k reply) to within
+    ∙ ap (λ w. take (2 * words) reply ++ w) (same_word word value low)

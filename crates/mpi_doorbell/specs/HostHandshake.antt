@@ -49,11 +49,19 @@ is_whole reply = nat_le 4 (length reply) && nat_le (4 * slice_index reply 2) (le
 abbrev pub is_msg_length : ℕ → Bool
 is_msg_length n = nat_le 5 n && nat_le n 32
 
--- steps 6 and 7: the next word is the Doorbell's low 16 bits; word 1 is refused for its MsgLength
+-- word 1 has MsgLength in its low byte
+abbrev pub is_bad_length : List ℕ → ℕ → Bool
+is_bad_length reply value = (length reply == 2) && not (is_msg_length (value % 256))
+
+-- the next word is the Doorbell's low 16 bits
+abbrev pub with_word : HostDoor → ℕ → HostDoor
+with_word d value = record d { reply = d.reply ++ little_bytes 2 value }
+
+-- steps 6 and 7: the next word; word 1 is refused for its MsgLength
 abbrev pub takes_word : HostDoor → ℕ → Stepped
 takes_word d value =
-    if (length d.reply == 2) && not (is_msg_length (value % 256)) then refuses d 6 value
-    else writes (record d { reply = d.reply ++ little_bytes 2 value }) (Reads News) HOST_INTERRUPT_STATUS 0
+    if is_bad_length d.reply value then refuses d 6 value
+    else writes (with_word d value) (Reads News) HOST_INTERRUPT_STATUS 0
 
 -- step 8: until the Doorbell isn't used
 abbrev pub hears_end : HostDoor → ℕ → Stepped

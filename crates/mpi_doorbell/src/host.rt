@@ -3,7 +3,7 @@ ghost use Rattle.std.specs.Prelude.{◌≡◌, [], false};
 ghost use Rattle.mpi_doorbell.specs.Bytes.{IsMessage};
 ghost use Rattle.mpi_doorbell.specs.HostDoor.{finishes, reads, refuses, writes};
 ghost use Rattle.byteorder.specs.Endian.{little_bytes};
-ghost use Rattle.mpi_doorbell.specs.HostHandshake.{hears_left_over, hears_news, hears_opened, hears_taken, hears_used, hears_word, is_whole, opens, sends, takes_word};
+ghost use Rattle.mpi_doorbell.specs.HostHandshake.{hears_left_over, hears_news, hears_opened, hears_taken, hears_used, hears_word, is_bad_length, is_whole, opens, sends, takes_word, with_word};
 ghost use Rattle.mpi_doorbell.specs.HostReset.{hears_reset_over, hears_state, hears_unit_reset, hears_unlocked, writes_key};
 ghost use Rattle.mpi_doorbell.specs.HostSteps.{acts, diagnostic_reset, Expects, handshake_of_message, hears, hears_reading, look_at_doorbell, next_step, unit_reset};
 
@@ -296,13 +296,28 @@ impl DoorHost {
         ensures after { self.new ≡ (takes_word self.old value).door }
         ensures step { result ≡ (takes_word self.old value).step }
     {
-        let word = (value & DOORBELL_DATA_MASK) as u16;
-        if self.words == 1 && !(5..=32).contains(&(word & 0xFF)) {
+        if self.is_bad_length(value) {
             return self.refuse(6, value);
         }
+        self.append(value);
+        self.write(Stage::Reads(Reading::News), HOST_INTERRUPT_STATUS, 0)
+    }
+
+    fn is_bad_length(&self, value: u32) -> bool
+        ensures { result ≡ is_bad_length self.now.reply value }
+    {
+        let msg_length = value & 0xFF;
+        self.words == 1 && !(5 <= msg_length && msg_length <= 32)
+    }
+
+    fn append(&mut self, value: u32)
+        requires more { is_whole self.old.reply ≡ false }
+        requires good { is_bad_length self.old.reply value ≡ false }
+        ensures { self.new ≡ with_word self.old value }
+    {
+        let word = (value & DOORBELL_DATA_MASK) as u16;
         LittleEndian::write_u16(&mut self.reply[2 * usize::from(self.words)..], word);
         self.words += 1;
-        self.write(Stage::Reads(Reading::News), HOST_INTERRUPT_STATUS, 0)
     }
 
     fn write_key(&mut self, place: u8) -> DoorStep
