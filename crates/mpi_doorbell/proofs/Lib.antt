@@ -1,2 +1,4 @@
 pub mod Exchanges
 mod Examples
+pub mod KeyLaw
+pub mod DoorKeys

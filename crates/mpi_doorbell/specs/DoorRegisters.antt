@@ -8,6 +8,7 @@ use Rattle.mpi_doorbell.specs.declared.state.IocState.{IocState}
 use Rattle.mpi_doorbell.specs.declared.state.IocState.TheVariants.{Reset, Ready, Operational, Fault}
 use Rattle.mpi_doorbell.specs.Bytes.{has}
 use Rattle.mpi_doorbell.specs.Handshake.{Handshake, Idle, Collects, Replies, asked_by, dword_taken, init_by, is_idle, is_replying, next_word, word_read}
+use Rattle.mpi_doorbell.specs.Keys.{place_after}
 use Rattle.mpi_doorbell.specs.State.{state_bits}
 
 pub record DoorRegisters : Type 0 where
@@ -89,18 +90,6 @@ pub record Written : Type 0 where
 
 abbrev pub quietly : DoorRegisters → Written
 quietly r = record { registers = r; effect = effect.None }
-
--- the keys that unlock HostDiagnostic, in order
-abbrev pub unlock_keys : List ℕ
-unlock_keys = 0xF ∷ 0x4 ∷ 0xB ∷ 0x2 ∷ 0x7 ∷ 0xD ∷ []
-
-abbrev pub is_key : Option ℕ → ℕ → Bool
-is_key None key = false
-is_key (Some expected) key = key == expected
-
--- the key that the sequence has at this place goes on; any other, and any past the last, begins anew
-abbrev pub place_after : ℕ → ℕ → ℕ
-place_after place key = if is_key (slice_get unlock_keys place) key then place + 1 else 0
 
 abbrev pub key_written : DoorRegisters → ℕ → DoorRegisters
 key_written r value = record r { key_place = place_after r.key_place (bit_and value WRITE_SEQUENCE_KEY_MASK) }

@@ -6,7 +6,7 @@ use Rattle.mpi_doorbell.specs.declared.stage.ResetKind.{ResetKind}
 use Rattle.mpi_doorbell.specs.declared.stage.ResetKind.TheVariants.{Diagnostic, MessageUnit}
 use Rattle.mpi_doorbell.specs.declared.stage.Stage.TheVariants.{Reads, WritesKey, Locks}
 use Rattle.mpi_doorbell.specs.Bytes.{has}
-use Rattle.mpi_doorbell.specs.DoorRegisters.{unlock_keys}
+use Rattle.mpi_doorbell.specs.Keys.{unlock_keys}
 use Rattle.mpi_doorbell.specs.HostDoor.{HostDoor, Stepped, reads, writes, refuses, finishes, state_step}
 
 -- step 20: a 0, which begins anew, and the keys that unlock HostDiagnostic

@@ -2,6 +2,7 @@
 ghost use Rattle.std.specs.Prelude.{◌≡◌, ◌<◌, ◌≤◌, [], IsTrue};
 ghost use Rattle.mpi_doorbell.specs.Bytes.{IsReply};
 ghost use Rattle.mpi_doorbell.specs.Handshake.{Handshake, Idle, Collects, Replies, IsAsked, asked_by, dword_taken, init_by, is_idle, is_replying, next_word, word_read};
+ghost use Rattle.mpi_doorbell.specs.Sizes.{IsAskedWithin};
 
 use std::marker::Model;
 
@@ -88,6 +89,7 @@ impl Exchange {
     pub fn take_dword(&mut self, dword: u32) -> Effect
         ensures after { self.new ≡ dword_taken self.old dword }
         ensures effect { result ≡ asked_by self.old dword }
+        ensures size { IsAskedWithin result }
     {
         let Progress::Collects { got, missing } = self.progress else {
             return Effect::None;

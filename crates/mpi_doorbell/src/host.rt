@@ -6,6 +6,7 @@ ghost use Rattle.byteorder.specs.Endian.{little_bytes};
 ghost use Rattle.mpi_doorbell.specs.HostHandshake.{hears_left_over, hears_news, hears_opened, hears_taken, hears_used, hears_word, is_bad_length, is_whole, opens, sends, takes_word, with_word};
 ghost use Rattle.mpi_doorbell.specs.HostReset.{hears_reset_over, hears_state, hears_unit_reset, hears_unlocked, writes_key};
 ghost use Rattle.mpi_doorbell.specs.HostSteps.{acts, diagnostic_reset, Expects, handshake_of_message, hears, hears_reading, look_at_doorbell, next_step, unit_reset};
+ghost use Rattle.mpi_doorbell.specs.Sizes.{IsDoneWithin};
 
 use std::marker::Model;
 
@@ -109,6 +110,7 @@ impl DoorHost {
         requires { Expects self.old.stage value }
         ensures after { self.new ≡ (next_step self.old value).door }
         ensures step { result ≡ (next_step self.old value).step }
+        ensures size { IsDoneWithin result }
     {
         match value {
             None => self.act(),
@@ -120,6 +122,7 @@ impl DoorHost {
         requires { Expects self.old.stage None }
         ensures after { self.new ≡ (acts self.old self.old.stage).door }
         ensures step { result ≡ (acts self.old self.old.stage).step }
+        ensures size { IsDoneWithin result }
     {
         match self.stage {
             Stage::Reads(reading) => self.read(reading),
@@ -139,6 +142,7 @@ impl DoorHost {
         requires { Expects self.old.stage (Some value) }
         ensures after { self.new ≡ (hears self.old self.old.stage value).door }
         ensures step { result ≡ (hears self.old self.old.stage value).step }
+        ensures size { IsDoneWithin result }
     {
         match self.stage {
             Stage::Awaits(reading) => self.hear_reading(reading, value),
@@ -149,6 +153,7 @@ impl DoorHost {
     fn hear_reading(&mut self, reading: Reading, value: u32) -> DoorStep
         ensures after { self.new ≡ (hears_reading self.old reading value).door }
         ensures step { result ≡ (hears_reading self.old reading value).step }
+        ensures size { IsDoneWithin result }
     {
         match reading {
             Reading::Used => self.hear_used(value),
@@ -168,6 +173,7 @@ impl DoorHost {
     fn read(&mut self, reading: Reading) -> DoorStep
         ensures after { self.new ≡ (reads self.old reading).door }
         ensures step { result ≡ (reads self.old reading).step }
+        ensures size { IsDoneWithin result }
     {
         self.stage = Stage::Awaits(reading);
         DoorStep::Read { reg: reading.register() }
@@ -176,6 +182,7 @@ impl DoorHost {
     fn write(&mut self, next: Stage, reg: u16, value: u32) -> DoorStep
         ensures after { self.new ≡ (writes self.old next reg value).door }
         ensures step { result ≡ (writes self.old next reg value).step }
+        ensures size { IsDoneWithin result }
     {
         self.stage = next;
         DoorStep::Write { reg, value }
@@ -184,6 +191,7 @@ impl DoorHost {
     fn refuse(&mut self, step: u8, value: u32) -> DoorStep
         ensures after { self.new ≡ (refuses self.old step value).door }
         ensures step { result ≡ (refuses self.old step value).step }
+        ensures size { IsDoneWithin result }
     {
         self.stage = Stage::Ended;
         DoorStep::Refused { step, value }
@@ -192,6 +200,7 @@ impl DoorHost {
     fn finish(&mut self) -> DoorStep
         ensures after { self.new ≡ (finishes self.old self.old.reply).door }
         ensures step { result ≡ (finishes self.old self.old.reply).step }
+        ensures size { IsDoneWithin result }
     {
         self.stage = Stage::Ended;
         let length = 2 * self.words;
@@ -204,6 +213,7 @@ impl DoorHost {
     fn hear_used(&mut self, value: u32) -> DoorStep
         ensures after { self.new ≡ (hears_used self.old value).door }
         ensures step { result ≡ (hears_used self.old value).step }
+        ensures size { IsDoneWithin result }
     {
         if value & DOORBELL_USED != 0 {
             return self.refuse(1, value);
@@ -214,6 +224,7 @@ impl DoorHost {
     fn hear_left_over(&mut self, value: u32) -> DoorStep
         ensures after { self.new ≡ (hears_left_over self.old value).door }
         ensures step { result ≡ (hears_left_over self.old value).step }
+        ensures size { IsDoneWithin result }
     {
         if value & IOC2SYS_DB_STATUS != 0 {
             return self.write(Stage::Opens, HOST_INTERRUPT_STATUS, 0);
@@ -224,6 +235,7 @@ impl DoorHost {
     fn open(&mut self) -> DoorStep
         ensures after { self.new ≡ (opens self.old).door }
         ensures step { result ≡ (opens self.old).step }
+        ensures size { IsDoneWithin result }
     {
         let function = u32::from(FUNCTION_HANDSHAKE) << DOORBELL_FUNCTION_SHIFT;
         let dwords = u32::from(self.dwords - self.sent) << DOORBELL_ADD_DWORDS_SHIFT;
@@ -233,6 +245,7 @@ impl DoorHost {
     fn hear_opened(&mut self, value: u32) -> DoorStep
         ensures after { self.new ≡ (hears_opened self.old value).door }
         ensures step { result ≡ (hears_opened self.old value).step }
+        ensures size { IsDoneWithin result }
     {
         if value & IOC2SYS_DB_STATUS != 0 {
             return self.write(Stage::Reads(Reading::Taken), HOST_INTERRUPT_STATUS, 0);
@@ -243,6 +256,7 @@ impl DoorHost {
     fn hear_taken(&mut self, value: u32) -> DoorStep
         ensures after { self.new ≡ (hears_taken self.old value).door }
         ensures step { result ≡ (hears_taken self.old value).step }
+        ensures size { IsDoneWithin result }
     {
         if value & SYS2IOC_DB_STATUS != 0 {
             return self.read(Reading::Taken);
@@ -253,6 +267,7 @@ impl DoorHost {
     fn send(&mut self) -> DoorStep
         ensures after { self.new ≡ (sends self.old).door }
         ensures step { result ≡ (sends self.old).step }
+        ensures size { IsDoneWithin result }
     {
         if self.sent == self.dwords {
             return self.read(Reading::News);
@@ -265,6 +280,7 @@ impl DoorHost {
     fn hear_news(&mut self, value: u32) -> DoorStep
         ensures after { self.new ≡ (hears_news self.old value).door }
         ensures step { result ≡ (hears_news self.old value).step }
+        ensures size { IsDoneWithin result }
     {
         if value & IOC2SYS_DB_STATUS != 0 {
             return self.read(Reading::Word);
@@ -275,6 +291,7 @@ impl DoorHost {
     fn hear_word(&mut self, value: u32) -> DoorStep
         ensures after { self.new ≡ (hears_word self.old value).door }
         ensures step { result ≡ (hears_word self.old value).step }
+        ensures size { IsDoneWithin result }
     {
         if !self.is_whole() {
             return self.take_word(value);
@@ -295,6 +312,7 @@ impl DoorHost {
         requires { is_whole self.old.reply ≡ false }
         ensures after { self.new ≡ (takes_word self.old value).door }
         ensures step { result ≡ (takes_word self.old value).step }
+        ensures size { IsDoneWithin result }
     {
         if self.is_bad_length(value) {
             return self.refuse(6, value);
@@ -323,6 +341,7 @@ impl DoorHost {
     fn write_key(&mut self, place: u8) -> DoorStep
         ensures after { self.new ≡ (writes_key self.old place).door }
         ensures step { result ≡ (writes_key self.old place).step }
+        ensures size { IsDoneWithin result }
     {
         match RESET_KEYS.get(usize::from(place)) {
             Some(key) => self.write(Stage::WritesKey(place + 1), WRITE_SEQUENCE, u32::from(*key)),
@@ -333,6 +352,7 @@ impl DoorHost {
     fn hear_unlocked(&mut self, value: u32) -> DoorStep
         ensures after { self.new ≡ (hears_unlocked self.old value).door }
         ensures step { result ≡ (hears_unlocked self.old value).step }
+        ensures size { IsDoneWithin result }
     {
         if value & DIAG_WRITE_ENABLE == 0 {
             return self.refuse(21, value);
@@ -343,6 +363,7 @@ impl DoorHost {
     fn hear_reset_over(&mut self, value: u32) -> DoorStep
         ensures after { self.new ≡ (hears_reset_over self.old value).door }
         ensures step { result ≡ (hears_reset_over self.old value).step }
+        ensures size { IsDoneWithin result }
     {
         if value & DIAG_RESET_ADAPTER != 0 {
             return self.read(Reading::ResetOver);
@@ -353,6 +374,7 @@ impl DoorHost {
     fn hear_state(&mut self, kind: ResetKind, value: u32) -> DoorStep
         ensures after { self.new ≡ (hears_state self.old kind value).door }
         ensures step { result ≡ (hears_state self.old kind value).step }
+        ensures size { IsDoneWithin result }
     {
         match value & IOC_STATE_MASK {
             IOC_STATE_READY => {
@@ -367,6 +389,7 @@ impl DoorHost {
     fn hear_unit_reset(&mut self, value: u32) -> DoorStep
         ensures after { self.new ≡ (hears_unit_reset self.old value).door }
         ensures step { result ≡ (hears_unit_reset self.old value).step }
+        ensures size { IsDoneWithin result }
     {
         if value & SYS2IOC_DB_STATUS != 0 {
             return self.read(Reading::UnitReset);
@@ -377,6 +400,7 @@ impl DoorHost {
     fn hear_doorbell(&mut self, value: u32) -> DoorStep
         ensures after { self.new ≡ (finishes self.old (little_bytes 4 value)).door }
         ensures step { result ≡ (finishes self.old (little_bytes 4 value)).step }
+        ensures size { IsDoneWithin result }
     {
         self.stage = Stage::Ended;
         let mut bytes = [0; 4];

@@ -2,7 +2,9 @@
 ghost use Rattle.std.specs.Prelude.{◌≡◌, ◌<◌, ℕ};
 ghost use Rattle.mpi_doorbell.specs.Bytes.{IsReply};
 ghost use Rattle.mpi_doorbell.specs.Handshake.{IsAsked};
-ghost use Rattle.mpi_doorbell.specs.DoorRegisters.{answered, diagnostic_value, diagnostic_written, doorbell_value, doorbell_written, handshake_opened, key_written, linked_up, new_registers, place_after, register_value, register_written, released, restarted, bits_if, is_unlocked, working_written};
+ghost use Rattle.mpi_doorbell.specs.DoorRegisters.{answered, diagnostic_value, diagnostic_written, doorbell_value, doorbell_written, handshake_opened, key_written, linked_up, new_registers, register_value, register_written, released, restarted, bits_if, is_unlocked, working_written};
+ghost use Rattle.mpi_doorbell.specs.Keys.{place_after};
+ghost use Rattle.mpi_doorbell.specs.Sizes.{IsAskedWithin};
 
 use std::marker::Model;
 
@@ -107,6 +109,7 @@ impl DoorIoc {
     pub fn write(&mut self, reg: u16, value: u32) -> Effect
         ensures after { self.new ≡ (register_written self.old reg value).registers }
         ensures effect { result ≡ (register_written self.old reg value).effect }
+        ensures size { IsAskedWithin result }
     {
         match reg {
             WRITE_SEQUENCE => {
@@ -203,6 +206,7 @@ impl DoorIoc {
     fn write_diagnostic(&mut self, value: u32) -> Effect
         ensures after { self.new ≡ (diagnostic_written self.old value).registers }
         ensures effect { result ≡ (diagnostic_written self.old value).effect }
+        ensures size { IsAskedWithin result }
     {
         if !self.is_unlocked() {
             return Effect::None;
@@ -230,6 +234,7 @@ impl DoorIoc {
     fn write_working(&mut self, reg: u16, value: u32) -> Effect
         ensures after { self.new ≡ (working_written self.old reg value).registers }
         ensures effect { result ≡ (working_written self.old reg value).effect }
+        ensures size { IsAskedWithin result }
     {
         match reg {
             DOORBELL => return self.write_doorbell(value),
@@ -244,6 +249,7 @@ impl DoorIoc {
     fn write_doorbell(&mut self, value: u32) -> Effect
         ensures after { self.new ≡ (doorbell_written self.old value).registers }
         ensures effect { result ≡ (doorbell_written self.old value).effect }
+        ensures size { IsAskedWithin result }
     {
         if !self.exchange.is_idle() {
             return self.exchange.take_dword(value);
@@ -259,6 +265,7 @@ impl DoorIoc {
     fn open(&mut self, dwords: u8) -> Effect
         ensures after { self.new ≡ (handshake_opened self.old dwords).registers }
         ensures effect { result ≡ (handshake_opened self.old dwords).effect }
+        ensures size { IsAskedWithin result }
     {
         if dwords == 0 || dwords > HANDSHAKE_DWORDS {
             return Effect::Fault(FAULT_DWORDS);

@@ -5,6 +5,7 @@ mod effect;
 mod exchange;
 mod host;
 mod ioc;
+pub mod laws;
 mod padded;
 pub mod registers;
 mod stage;

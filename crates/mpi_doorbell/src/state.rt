@@ -19,7 +19,7 @@ pub enum IocState {
 
 impl IocState {
     /// The state where the Doorbell has it.
-    pub fn bits(self) -> u32
+    pub(crate) fn bits(self) -> u32
         ensures { result ≡ state_bits self }
     {
         match self {

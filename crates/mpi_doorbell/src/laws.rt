@@ -1,0 +1,16 @@
+//! What holds over whole runs of the doorbell, by its rules alone. The functions do nothing: their
+//! clauses are the laws.
+ghost use Rattle.std.specs.Prelude.{◌≡◌, List, ℕ};
+ghost use Rattle.mpi_doorbell.specs.DoorCalls.{after_calls, DoorCall, keys_written};
+ghost use Rattle.mpi_doorbell.specs.DoorRegisters.{new_registers, register_written};
+ghost use Rattle.mpi_doorbell.specs.Keys.{IsUnlocking};
+
+use crate::effect::Effect;
+
+/// An adapter reset begins only where the last six keys that were written to WriteSequence are those
+/// that unlock HostDiagnostic, in order, and the first of them was written at place 0.
+pub fn reset_needs_the_keys()
+    ensures { (calls : List DoorCall) (reg value : ℕ) →
+        (register_written (after_calls new_registers calls) reg value).effect ≡ Effect.AdapterReset →
+        IsUnlocking (keys_written calls) }
+{}
