@@ -2,3 +2,4 @@ pub mod Exchanges
 mod Examples
 pub mod KeyLaw
 pub mod DoorKeys
+pub mod DoorDwords

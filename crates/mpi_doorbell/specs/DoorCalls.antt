@@ -1,9 +1,10 @@
 -- Runs of the adapter's side: any calls, in any order. A read changes nothing, and is left out.
-use Rattle.std.specs.Prelude.{ℕ, Bool, ◌&&◌, not, ◌==◌, if◌then◌else◌, List, [], ◌∷◌, ◌++◌, bit_and}
+use Rattle.std.specs.Prelude.{◌≡◌, ℕ, ◌*◌, ◌/◌, ◌%◌, ◌^◌, Bool, ◌&&◌, not, ◌==◌, if◌then◌else◌, List, [], ◌∷◌, ◌++◌, length, bit_and}
 use Rattle.std.specs.List.{flat_map}
 use Rattle.byteorder.specs.Endian.{little_bytes}
-use Rattle.mpi_doorbell.specs.declared.registers.TheConstants.{DOORBELL, WRITE_SEQUENCE, WRITE_SEQUENCE_KEY_MASK}
+use Rattle.mpi_doorbell.specs.declared.registers.TheConstants.{DOORBELL, WRITE_SEQUENCE, DOORBELL_FUNCTION_SHIFT, DOORBELL_ADD_DWORDS_SHIFT, FUNCTION_HANDSHAKE, WRITE_SEQUENCE_KEY_MASK}
 use Rattle.mpi_doorbell.specs.declared.state.IocState.{IocState}
+use Rattle.mpi_doorbell.specs.Bytes.{padded}
 use Rattle.mpi_doorbell.specs.DoorRegisters.{DoorRegisters, answered, is_fault, linked_up, register_written, restarted}
 
 pub data DoorCall : Type 0 where
@@ -50,3 +51,18 @@ doorbell_taken r (c ∷ cs) = taken_of r c ++ doorbell_taken (called r c) cs
 -- the bytes of these dwords, one after the other
 abbrev pub dword_bytes : List ℕ → List ℕ
 dword_bytes = flat_map (little_bytes 4)
+
+-- of these words the last ones are a handshake's function and count of dwords, and then these dwords
+pub record IsOpenedFor (words : List ℕ) (count : ℕ) (dwords : List ℕ) : Type 0 where
+  pub earlier : List ℕ
+  pub opening : ℕ
+  pub split : words ≡ earlier ++ opening ∷ dwords
+  pub function : opening / 2 ^ DOORBELL_FUNCTION_SHIFT ≡ FUNCTION_HANDSHAKE
+  pub dword_count : opening / 2 ^ DOORBELL_ADD_DWORDS_SHIFT % 256 ≡ count
+
+-- the message that is asked is the dwords since the handshake was opened, as many as it was opened for
+pub record AsksDwords (words : List ℕ) (count : ℕ) (bytes : List ℕ) : Type 0 where
+  pub dwords : List ℕ
+  pub opened : IsOpenedFor words (length dwords) dwords
+  pub size : count ≡ 4 * length dwords
+  pub message : bytes ≡ padded (dword_bytes dwords)

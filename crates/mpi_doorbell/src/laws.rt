@@ -1,7 +1,7 @@
 //! What holds over whole runs of the doorbell, by its rules alone. The functions do nothing: their
 //! clauses are the laws.
-ghost use Rattle.std.specs.Prelude.{◌≡◌, List, ℕ};
-ghost use Rattle.mpi_doorbell.specs.DoorCalls.{after_calls, DoorCall, keys_written};
+ghost use Rattle.std.specs.Prelude.{◌≡◌, ◌∷◌, ◌++◌, [], List, ℕ};
+ghost use Rattle.mpi_doorbell.specs.DoorCalls.{after_calls, AsksDwords, DoorCall, doorbell_taken, keys_written};
 ghost use Rattle.mpi_doorbell.specs.DoorRegisters.{new_registers, register_written};
 ghost use Rattle.mpi_doorbell.specs.Keys.{IsUnlocking};
 
@@ -13,4 +13,12 @@ pub fn reset_needs_the_keys()
     ensures { (calls : List DoorCall) (reg value : ℕ) →
         (register_written (after_calls new_registers calls) reg value).effect ≡ Effect.AdapterReset →
         IsUnlocking (keys_written calls) }
+{}
+
+/// A message that the adapter asks is the dwords that were written to the Doorbell since its handshake
+/// was opened, as many as it was opened for.
+pub fn messages_are_their_dwords()
+    ensures { (calls : List DoorCall) (reg value count : ℕ) (bytes : List ℕ) →
+        (register_written (after_calls new_registers calls) reg value).effect ≡ Effect.Asked count bytes →
+        AsksDwords (doorbell_taken new_registers calls ++ value ∷ []) count bytes }
 {}
