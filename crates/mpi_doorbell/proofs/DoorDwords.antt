@@ -11,7 +11,7 @@ use Rattle.mpi_doorbell.specs.DoorCalls.{DoorCall, Writes, Answers, SetsState, R
 use Rattle.mpi_doorbell.specs.DoorRegisters.{DoorRegisters, Written, doorbell_written, diagnostic_written, handshake_opened, is_fault, function_written, new_registers, register_written, released, working_written}
 use Rattle.mpi_doorbell.specs.Handshake.{Handshake, Idle, Collects, Asked, Replies, asked_by, dword_taken, is_idle, next_word}
 
-dword_bytes-push : (ds : List ℕ) (d : ℕ) → dword_bytes (ds ++ d ∷ []) ≡ dword_bytes ds ++ little_bytes 4 d
+pub dword_bytes-push : (ds : List ℕ) (d : ℕ) → dword_bytes (ds ++ d ∷ []) ≡ dword_bytes ds ++ little_bytes 4 d
 dword_bytes-push [] d = append-nil (little_bytes 4 d)
 dword_bytes-push (x ∷ ds) d = ap (λ ys. little_bytes 4 x ++ ys) (dword_bytes-push ds d) ∙ sym (append_assoc (little_bytes 4 x) (dword_bytes ds) (little_bytes 4 d))
 

@@ -3,3 +3,5 @@ mod Examples
 pub mod KeyLaw
 pub mod DoorKeys
 pub mod DoorDwords
+pub mod HostTurns
+pub mod HostRuns

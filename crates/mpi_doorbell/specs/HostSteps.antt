@@ -1,13 +1,14 @@
 -- The host's next step, wherever it stands.
-use Rattle.std.specs.Prelude.{ℕ, List, [], Option, Some, None}
+use Rattle.std.specs.Prelude.{◌≡◌, ℕ, List, [], Option, Some, None}
 use Rattle.byteorder.specs.Endian.{little_bytes}
 use Rattle.mpi_doorbell.specs.declared.stage.Reading.{Reading}
 use Rattle.mpi_doorbell.specs.declared.stage.Reading.TheVariants as reading
 use Rattle.mpi_doorbell.specs.declared.stage.Stage.{Stage}
 use Rattle.mpi_doorbell.specs.declared.stage.Stage.TheVariants.{Reads, Awaits, Opens, WritesKey, Locks, ResetsUnit, Finishes, Ended}
-use Rattle.mpi_doorbell.specs.declared.step.DoorStep.TheVariants.{Done}
+use Rattle.mpi_doorbell.specs.declared.step.DoorStep.{DoorStep}
+use Rattle.mpi_doorbell.specs.declared.step.DoorStep.TheVariants.{Write, Read, Done, Refused}
 use Rattle.mpi_doorbell.specs.Bytes.{padded}
-use Rattle.mpi_doorbell.specs.HostDoor.{HostDoor, Stepped, finishes, reads}
+use Rattle.mpi_doorbell.specs.HostDoor.{HostDoor, Stepped, finishes, reads, register_of}
 use Rattle.mpi_doorbell.specs.HostHandshake.{hears_left_over, hears_news, hears_opened, hears_taken, hears_used, hears_word, opens}
 use Rattle.mpi_doorbell.specs.HostReset.{hears_reset_over, hears_state, hears_unit_reset, hears_unlocked, locks, resets_unit, writes_key}
 
@@ -37,6 +38,18 @@ Expects ResetsUnit None = Unit {0}
 Expects Finishes None = Unit {0}
 Expects Ended None = ⊥
 Expects stage (Some value) = ⊥
+
+abbrev pub IsWrite : DoorStep → Type 0
+IsWrite (Write reg value) = Unit {0}
+IsWrite (Read reg) = ⊥
+IsWrite (Done count bytes) = ⊥
+IsWrite (Refused step value) = ⊥
+
+abbrev pub IsEnd : DoorStep → Type 0
+IsEnd (Write reg value) = ⊥
+IsEnd (Read reg) = ⊥
+IsEnd (Done count bytes) = Unit {0}
+IsEnd (Refused step value) = Unit {0}
 
 -- what can't be asked changes nothing
 abbrev pub stands : HostDoor → Stepped
@@ -80,3 +93,15 @@ hears d Ended value = stands d
 abbrev pub next_step : HostDoor → Option ℕ → Stepped
 next_step d None = acts d d.stage
 next_step d (Some value) = hears d d.stage value
+
+-- the host waits for a value exactly where its step is a read, of that register, and it has ended exactly
+-- where its step is Done or Refused
+abbrev pub TakesTurn : Stage → DoorStep → Type 0
+TakesTurn (Awaits x) step = step ≡ Read (register_of x)
+TakesTurn Ended step = IsEnd step
+TakesTurn (Reads x) step = IsWrite step
+TakesTurn Opens step = IsWrite step
+TakesTurn (WritesKey place) step = IsWrite step
+TakesTurn Locks step = IsWrite step
+TakesTurn ResetsUnit step = IsWrite step
+TakesTurn Finishes step = IsWrite step

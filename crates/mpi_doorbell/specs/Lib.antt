@@ -11,3 +11,4 @@ pub mod HostReset
 pub mod HostSteps
 pub mod HostView
 pub mod DoorCalls
+pub mod HostRun
