@@ -7,11 +7,13 @@ use Rattle.mpi_doorbell.specs.declared.stage.Reading.TheVariants as reading
 use Rattle.mpi_doorbell.specs.declared.stage.ResetKind.{ResetKind}
 use Rattle.mpi_doorbell.specs.declared.stage.Stage.{Stage}
 use Rattle.mpi_doorbell.specs.declared.stage.Stage.TheVariants.{Reads, Awaits, Opens, WritesKey, Locks, ResetsUnit, Finishes, Ended}
+use Rattle.mpi_doorbell.specs.declared.step.DoorStep.{DoorStep}
+use Rattle.mpi_doorbell.specs.declared.step.DoorStep.TheVariants.{Write, Read, Done, Refused}
 use Rattle.mpi_doorbell.specs.Bytes.{has}
 use Rattle.mpi_doorbell.specs.HostDoor.{HostDoor, Stepped}
 use Rattle.mpi_doorbell.specs.HostHandshake.{hears_word, is_bad_length, is_whole, sends}
 use Rattle.mpi_doorbell.specs.HostReset.{hears_state, reset_keys, writes_key_or_reads}
-use Rattle.mpi_doorbell.specs.HostSteps.{Expects, TakesTurn, acts, hears, hears_reading, next_step}
+use Rattle.mpi_doorbell.specs.HostSteps.{Expects, ExpectsAfter, TakesTurn, acts, hears, hears_reading, next_step}
 
 abbrev Turn : Stepped → Type 0
 Turn s = TakesTurn s.door.stage s.step
@@ -48,7 +50,7 @@ key_turn : (d : HostDoor) (place : ℕ) (key : Option ℕ) → Turn (writes_key_
 key_turn d place (Some key) = tt
 key_turn d place None = refl
 
-acts_turn : (d : HostDoor) (s : Stage) → Expects s None → Turn (acts d s)
+pub acts_turn : (d : HostDoor) (s : Stage) → Expects s None → Turn (acts d s)
 acts_turn d (Reads x) e = refl
 acts_turn d (Awaits x) e = absurd e
 acts_turn d Opens e = tt
@@ -71,3 +73,38 @@ value_turn d Ended value e = absurd e
 pub takes_turn : (d : HostDoor) (value : Option ℕ) → Expects d.stage value → TakesTurn (next_step d value).door.stage (next_step d value).step
 takes_turn d None e = acts_turn d d.stage e
 takes_turn d (Some value) e = value_turn d d.stage value e
+
+-- what is expected after a step that takes its turn
+pub expects_after : (s : Stage) (step : DoorStep) → TakesTurn s step → ExpectsAfter s step
+expects_after (Reads x) (Read reg) t = absurd t
+expects_after (Reads x) (Write reg value) t = tt
+expects_after (Reads x) (Done count bytes) t = tt
+expects_after (Reads x) (Refused n value) t = tt
+expects_after (Awaits x) (Read reg) t = λ value. tt
+expects_after (Awaits x) (Write reg value) t = absurd (cc)
+expects_after (Awaits x) (Done count bytes) t = tt
+expects_after (Awaits x) (Refused n value) t = tt
+expects_after Opens (Read reg) t = absurd t
+expects_after Opens (Write reg value) t = tt
+expects_after Opens (Done count bytes) t = tt
+expects_after Opens (Refused n value) t = tt
+expects_after (WritesKey place) (Read reg) t = absurd t
+expects_after (WritesKey place) (Write reg value) t = tt
+expects_after (WritesKey place) (Done count bytes) t = tt
+expects_after (WritesKey place) (Refused n value) t = tt
+expects_after Locks (Read reg) t = absurd t
+expects_after Locks (Write reg value) t = tt
+expects_after Locks (Done count bytes) t = tt
+expects_after Locks (Refused n value) t = tt
+expects_after ResetsUnit (Read reg) t = absurd t
+expects_after ResetsUnit (Write reg value) t = tt
+expects_after ResetsUnit (Done count bytes) t = tt
+expects_after ResetsUnit (Refused n value) t = tt
+expects_after Finishes (Read reg) t = absurd t
+expects_after Finishes (Write reg value) t = tt
+expects_after Finishes (Done count bytes) t = tt
+expects_after Finishes (Refused n value) t = tt
+expects_after Ended (Read reg) t = absurd t
+expects_after Ended (Write reg value) t = absurd t
+expects_after Ended (Done count bytes) t = tt
+expects_after Ended (Refused n value) t = tt

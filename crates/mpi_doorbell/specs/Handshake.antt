@@ -78,3 +78,11 @@ init_by Idle = None
 init_by (Collects missing message) = None
 init_by (Asked message) = who_init_of message
 init_by (Replies left) = None
+
+-- a message that a write asks waits for its reply from then on
+abbrev pub WaitsIfAsked : Effect → Handshake → Type 0
+WaitsIfAsked effect.None handshake = Unit {0}
+WaitsIfAsked (effect.Asked count bytes) handshake = IsAsked handshake
+WaitsIfAsked effect.UnitReset handshake = Unit {0}
+WaitsIfAsked effect.AdapterReset handshake = Unit {0}
+WaitsIfAsked (effect.Fault code) handshake = Unit {0}

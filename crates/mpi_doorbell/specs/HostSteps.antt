@@ -105,3 +105,10 @@ TakesTurn (WritesKey place) step = IsWrite step
 TakesTurn Locks step = IsWrite step
 TakesTurn ResetsUnit step = IsWrite step
 TakesTurn Finishes step = IsWrite step
+
+-- so after a read the value is expected, and after a write none is
+abbrev pub ExpectsAfter : Stage → DoorStep → Type 0
+ExpectsAfter stage (Read reg) = (value : ℕ) → Expects stage (Some value)
+ExpectsAfter stage (Write reg value) = Expects stage None
+ExpectsAfter stage (Done count bytes) = Unit {0}
+ExpectsAfter stage (Refused step value) = Unit {0}

@@ -1,7 +1,7 @@
 //! A handshake as the adapter sees it: a message comes dword by dword, its reply goes word by word.
 ghost use Rattle.std.specs.Prelude.{◌≡◌, ◌<◌, ◌≤◌, [], IsTrue};
 ghost use Rattle.mpi_doorbell.specs.Bytes.{IsReply};
-ghost use Rattle.mpi_doorbell.specs.Handshake.{Handshake, Idle, Collects, Replies, IsAsked, asked_by, dword_taken, init_by, is_idle, is_replying, next_word, word_read};
+ghost use Rattle.mpi_doorbell.specs.Handshake.{asked_by, Collects, dword_taken, Idle, init_by, is_idle, is_replying, next_word, Replies, WaitsIfAsked, word_read};
 ghost use Rattle.mpi_doorbell.specs.Sizes.{IsAskedWithin};
 
 use std::marker::Model;
@@ -90,6 +90,7 @@ impl Exchange {
         ensures after { self.new ≡ dword_taken self.old dword }
         ensures effect { result ≡ asked_by self.old dword }
         ensures size { IsAskedWithin result }
+        ensures waits { WaitsIfAsked result self.new }
     {
         let Progress::Collects { got, missing } = self.progress else {
             return Effect::None;

@@ -5,7 +5,7 @@ ghost use Rattle.mpi_doorbell.specs.HostDoor.{finishes, reads, refuses, writes};
 ghost use Rattle.byteorder.specs.Endian.{little_bytes};
 ghost use Rattle.mpi_doorbell.specs.HostHandshake.{hears_left_over, hears_news, hears_opened, hears_taken, hears_used, hears_word, is_bad_length, is_whole, opens, sends, takes_word, with_word};
 ghost use Rattle.mpi_doorbell.specs.HostReset.{hears_reset_over, hears_state, hears_unit_reset, hears_unlocked, writes_key};
-ghost use Rattle.mpi_doorbell.specs.HostSteps.{acts, diagnostic_reset, Expects, handshake_of_message, hears, hears_reading, look_at_doorbell, next_step, TakesTurn, unit_reset};
+ghost use Rattle.mpi_doorbell.specs.HostSteps.{acts, diagnostic_reset, Expects, ExpectsAfter, handshake_of_message, hears, hears_reading, look_at_doorbell, next_step, TakesTurn, unit_reset};
 ghost use Rattle.mpi_doorbell.specs.Sizes.{IsDoneWithin};
 
 use std::marker::Model;
@@ -112,6 +112,7 @@ impl DoorHost {
         ensures step { result ≡ (next_step self.old value).step }
         ensures size { IsDoneWithin result }
         ensures turn { TakesTurn self.new.stage result }
+        ensures goes_on { ExpectsAfter self.new.stage result }
     {
         match value {
             None => self.act(),

@@ -1,7 +1,7 @@
 //! The adapter's side of the doorbell.
 ghost use Rattle.std.specs.Prelude.{◌≡◌, ◌<◌, ℕ};
 ghost use Rattle.mpi_doorbell.specs.Bytes.{IsReply};
-ghost use Rattle.mpi_doorbell.specs.Handshake.{IsAsked};
+ghost use Rattle.mpi_doorbell.specs.Handshake.{IsAsked, WaitsIfAsked};
 ghost use Rattle.mpi_doorbell.specs.DoorRegisters.{answered, diagnostic_value, diagnostic_written, doorbell_value, doorbell_written, handshake_opened, key_written, linked_up, new_registers, register_value, register_written, released, restarted, bits_if, is_unlocked, working_written};
 ghost use Rattle.mpi_doorbell.specs.Keys.{place_after};
 ghost use Rattle.mpi_doorbell.specs.Sizes.{IsAskedWithin};
@@ -110,6 +110,7 @@ impl DoorIoc {
         ensures after { self.new ≡ (register_written self.old reg value).registers }
         ensures effect { result ≡ (register_written self.old reg value).effect }
         ensures size { IsAskedWithin result }
+        ensures waits { WaitsIfAsked result self.new.handshake }
     {
         match reg {
             WRITE_SEQUENCE => {
@@ -207,6 +208,7 @@ impl DoorIoc {
         ensures after { self.new ≡ (diagnostic_written self.old value).registers }
         ensures effect { result ≡ (diagnostic_written self.old value).effect }
         ensures size { IsAskedWithin result }
+        ensures waits { WaitsIfAsked result self.new.handshake }
     {
         if !self.is_unlocked() {
             return Effect::None;
@@ -235,6 +237,7 @@ impl DoorIoc {
         ensures after { self.new ≡ (working_written self.old reg value).registers }
         ensures effect { result ≡ (working_written self.old reg value).effect }
         ensures size { IsAskedWithin result }
+        ensures waits { WaitsIfAsked result self.new.handshake }
     {
         match reg {
             DOORBELL => return self.write_doorbell(value),
@@ -250,6 +253,7 @@ impl DoorIoc {
         ensures after { self.new ≡ (doorbell_written self.old value).registers }
         ensures effect { result ≡ (doorbell_written self.old value).effect }
         ensures size { IsAskedWithin result }
+        ensures waits { WaitsIfAsked result self.new.handshake }
     {
         if !self.exchange.is_idle() {
             return self.exchange.take_dword(value);
@@ -266,6 +270,7 @@ impl DoorIoc {
         ensures after { self.new ≡ (handshake_opened self.old dwords).registers }
         ensures effect { result ≡ (handshake_opened self.old dwords).effect }
         ensures size { IsAskedWithin result }
+        ensures waits { WaitsIfAsked result self.new.handshake }
     {
         if dwords == 0 || dwords > HANDSHAKE_DWORDS {
             return Effect::Fault(FAULT_DWORDS);
