@@ -294,6 +294,6 @@ fn place_after(place: u8, key: u8) -> u8
 {
     match UNLOCK_KEYS.get(usize::from(place)) {
         Some(expected) if *expected == key => place + 1,
-        _ => 0,
+        Some(_) | None => 0,
     }
 }

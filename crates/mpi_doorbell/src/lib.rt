@@ -17,3 +17,6 @@ pub use host::DoorHost;
 pub use ioc::DoorIoc;
 pub use state::IocState;
 pub use step::DoorStep;
+
+#[cfg(test)]
+mod tests;
