@@ -1,10 +1,9 @@
 -- A message that the adapter's side asks is the dwords that were written since its handshake was opened.
-use Rattle.std.proofs.Common.{◌≡◌, ℕ, ◌+◌, ◌-◌, ◌*◌, ◌/◌, ◌%◌, ◌^◌, ◌<◌, ◌≤◌, ◌⊎◌, eqb, Bool, true, false, ◌&&◌, nat_lt, nat_le, ◌==◌, if◌then◌else◌, List, [], ◌∷◌, ◌++◌, length, refl, ap, sym, ◌∙◌, subst, inl, inr, append_assoc, length-append, arith}
+use Rattle.std.proofs.Common.{◌≡◌, ℕ, ◌+◌, ◌-◌, ◌*◌, ◌/◌, ◌%◌, ◌^◌, ◌<◌, ◌≤◌, eqb, Bool, true, false, ◌&&◌, nat_lt, nat_le, if◌then◌else◌, List, [], ◌∷◌, ◌++◌, length, refl, ap, sym, ◌∙◌, subst, append_assoc, length-append, arith}
 use Rattle.std.proofs.lemmas.Bool.Decides.{nat_tests}
 use Rattle.std.proofs.lemmas.Bool.{and_parts, cond_both, eqb-true, false≢true, ltb-false, ltb-true}
 use Rattle.std.proofs.lemmas.List.{append-nil}
 use Rattle.byteorder.specs.Endian.{little_bytes}
-use Rattle.mpi_doorbell.specs.declared.effect.Effect.{Effect}
 use Rattle.mpi_doorbell.specs.declared.effect.Effect.TheVariants as effect
 use Rattle.mpi_doorbell.specs.Bytes.{padded}
 use Rattle.mpi_doorbell.specs.DoorCalls.{DoorCall, Writes, Answers, SetsState, Restarts, Links, AsksDwords, IsOpenedFor, after_calls, called, doorbell_taken, dword_bytes, taken_of}
@@ -112,23 +111,23 @@ gathers_opened : (r : DoorRegisters) (value : ℕ) (words : List ℕ) → r.hand
 unfolding Gathers
 gathers_opened r value words idle f =
     cond_both (nat_lt 0 (value / 2 ^ 16 % 256) && nat_le (value / 2 ^ 16 % 256) 32) _ _ (GathersAfter (words ++ value ∷ []))
-      (λ e. opened_now value words f (ltb-true 0 _ (and_parts _ _ e).0))
-      (λ _. gathers_idle r.handshake (words ++ value ∷ []) idle)
+    (λ e. opened_now value words f (ltb-true 0 _ (and_parts _ _ e).0))
+    (λ _. gathers_idle r.handshake (words ++ value ∷ []) idle)
 
 gathers_function : (r : DoorRegisters) (value : ℕ) (words : List ℕ) → r.handshake ≡ Idle
     → GathersAfter (words ++ value ∷ []) (function_written r (value / 2 ^ 24) (value / 2 ^ 16 % 256))
 gathers_function r value words idle =
     cond_both (eqb (value / 2 ^ 24) 0x42) _ _ (GathersAfter (words ++ value ∷ []))
-      (λ e. gathers_opened r value words idle (eqb-true _ _ e))
-      (λ _. cond_both (eqb (value / 2 ^ 24) 0x40) _ _ (GathersAfter (words ++ value ∷ []))
-        (λ _. gathers_idle r.handshake (words ++ value ∷ []) idle)
-        (λ _. gathers_idle r.handshake (words ++ value ∷ []) idle))
+    (λ e. gathers_opened r value words idle (eqb-true _ _ e))
+    (λ _. cond_both (eqb (value / 2 ^ 24) 0x40) _ _ (GathersAfter (words ++ value ∷ []))
+    (λ _. gathers_idle r.handshake (words ++ value ∷ []) idle)
+    (λ _. gathers_idle r.handshake (words ++ value ∷ []) idle))
 
 gathers_doorbell : (r : DoorRegisters) (value : ℕ) (words : List ℕ) → Gathers r.handshake words → GathersAfter (words ++ value ∷ []) (doorbell_written r value)
 gathers_doorbell r value words g =
     cond_both (is_idle r.handshake) _ _ (GathersAfter (words ++ value ∷ []))
-      (λ e. gathers_function r value words (idle_is r.handshake e))
-      (λ _. gathers_taken r.handshake value words g)
+    (λ e. gathers_function r value words (idle_is r.handshake e))
+    (λ _. gathers_taken r.handshake value words g)
 
 -- a call that takes no dword
 gathers_quiet : (h : Handshake) (words ws : List ℕ) → ws ≡ [] → Gathers h words → Gathers h (words ++ ws)
@@ -154,27 +153,27 @@ gathers_working : (r : DoorRegisters) (reg value : ℕ) (words : List ℕ) → i
 gathers_working r reg value words works g =
     let P : Written → Type 0 = GathersAfter (words ++ taken_of r (Writes reg value)) in
     cond_both (eqb reg 0) _ _ P
-      (λ e. subst (λ (ws : List ℕ). GathersAfter (words ++ ws) (doorbell_written r value)) (sym (takes_one r reg value e works)) (gathers_doorbell r value words g))
-      (λ n. cond_both (eqb reg 0x30) _ _ P
-        (λ e. gathers_quiet (next_word r.handshake) words _ (takes_none_else r reg value n) (gathers_next r.handshake words g))
-        (λ _. cond_both (eqb reg 0x34) _ _ P
-          (λ _. gathers_quiet r.handshake words _ (takes_none_else r reg value n) g)
-          (λ _. cond_both (eqb reg 0x6C) _ _ P
-            (λ _. gathers_quiet r.handshake words _ (takes_none_else r reg value n) g)
-            (λ _. gathers_quiet r.handshake words _ (takes_none_else r reg value n) g))))
+    (λ e. subst (λ (ws : List ℕ). GathersAfter (words ++ ws) (doorbell_written r value)) (sym (takes_one r reg value e works)) (gathers_doorbell r value words g))
+    (λ n. cond_both (eqb reg 0x30) _ _ P
+    (λ e. gathers_quiet (next_word r.handshake) words _ (takes_none_else r reg value n) (gathers_next r.handshake words g))
+    (λ _. cond_both (eqb reg 0x34) _ _ P
+    (λ _. gathers_quiet r.handshake words _ (takes_none_else r reg value n) g)
+    (λ _. cond_both (eqb reg 0x6C) _ _ P
+    (λ _. gathers_quiet r.handshake words _ (takes_none_else r reg value n) g)
+    (λ _. gathers_quiet r.handshake words _ (takes_none_else r reg value n) g))))
 
 gathers_written : (r : DoorRegisters) (reg value : ℕ) (words : List ℕ) → Gathers r.handshake words
     → GathersAfter (words ++ taken_of r (Writes reg value)) (register_written r reg value)
 gathers_written r reg value words g =
     let P : Written → Type 0 = GathersAfter (words ++ taken_of r (Writes reg value)) in
     cond_both (eqb reg 4) _ _ P
-      (λ e. gathers_quiet r.handshake words _ (takes_none_elsewhere r reg value 4 e (omega arith)) g)
-      (λ _. cond_both (eqb reg 8) _ _ P
-        (λ e. gathers_quiet _ words _ (takes_none_elsewhere r reg value 8 e (omega arith))
-          (subst (λ (h : Handshake). Gathers h words) (sym (diagnostic_handshake r value)) g))
-        (λ _. cond_both (is_fault r.state) _ _ P
-          (λ e. gathers_quiet r.handshake words _ (takes_none_faulted r reg value e) g)
-          (λ e. gathers_working r reg value words e g)))
+    (λ e. gathers_quiet r.handshake words _ (takes_none_elsewhere r reg value 4 e (omega arith)) g)
+    (λ _. cond_both (eqb reg 8) _ _ P
+    (λ e. gathers_quiet _ words _ (takes_none_elsewhere r reg value 8 e (omega arith))
+    (subst (λ (h : Handshake). Gathers h words) (sym (diagnostic_handshake r value)) g))
+    (λ _. cond_both (is_fault r.state) _ _ P
+    (λ e. gathers_quiet r.handshake words _ (takes_none_faulted r reg value e) g)
+    (λ e. gathers_working r reg value words e g)))
 
 released_handshake : (r : DoorRegisters) → (released r).handshake ≡ r.handshake
 released_handshake r = grind arith
@@ -187,13 +186,13 @@ gathers_call r (SetsState state) words g = gathers_quiet r.handshake words [] re
 gathers_call r Restarts words g = tt
 gathers_call r Links words g =
     gathers_quiet _ words [] refl
-      (subst (λ (h : Handshake). Gathers h words) (sym (released_handshake (record r { reset_adapter = false; link_waits = true }))) g)
+    (subst (λ (h : Handshake). Gathers h words) (sym (released_handshake (record r { reset_adapter = false; link_waits = true }))) g)
 
 gathers_run : (r : DoorRegisters) (cs : List DoorCall) (words : List ℕ) → Gathers r.handshake words → Gathers (after_calls r cs).handshake (words ++ doorbell_taken r cs)
 gathers_run r [] words g = gathers_quiet r.handshake words [] refl g
 gathers_run r (c ∷ cs) words g =
     subst (Gathers (after_calls (called r c) cs).handshake) (append_assoc words (taken_of r c) (doorbell_taken (called r c) cs))
-      (gathers_run (called r c) cs (words ++ taken_of r c) (gathers_call r c words g))
+    (gathers_run (called r c) cs (words ++ taken_of r c) (gathers_call r c words g))
 
 -- only the last dword of a handshake asks a message
 
@@ -213,10 +212,10 @@ register_asks : (r : DoorRegisters) (reg value count : ℕ) (bytes : List ℕ) �
 register_asks r reg value count bytes =
     let P : Written → Type 0 = λ w. w.effect ≡ effect.Asked count bytes → asked_by r.handshake value ≡ effect.Asked count bytes in
     cond_both (eqb reg 4) _ _ P
-      (λ _ e. absurd (cc))
-      (λ _. cond_both (eqb reg 8) _ _ P
-        (λ _ e. absurd (diagnostic_asks_none r value count bytes e))
-        (λ _. cond_both (is_fault r.state) _ _ P (λ _ e. absurd (cc)) (λ _ e. working_asks r reg value count bytes e)))
+    (λ _ e. absurd (cc))
+    (λ _. cond_both (eqb reg 8) _ _ P
+    (λ _ e. absurd (diagnostic_asks_none r value count bytes e))
+    (λ _. cond_both (is_fault r.state) _ _ P (λ _ e. absurd (cc)) (λ _ e. working_asks r reg value count bytes e)))
 
 asked_if : (b : Bool) (n count : ℕ) (x bytes : List ℕ) → if b then effect.None else effect.Asked n x ≡ effect.Asked count bytes → (b ≡ false) × (count ≡ n) × (bytes ≡ x)
 asked_if true n count x bytes e = absurd (cc)
@@ -236,5 +235,5 @@ pub dwords_law : (calls : List DoorCall) (reg value count : ℕ) (bytes : List �
 dwords_law calls reg value count bytes e =
     let r : DoorRegisters = after_calls new_registers calls in
     asks_dwords r.handshake value count (doorbell_taken new_registers calls) bytes
-      (gathers_run new_registers calls [] (gathers_idle Idle [] refl))
-      (register_asks r reg value count bytes e)
+    (gathers_run new_registers calls [] (gathers_idle Idle [] refl))
+    (register_asks r reg value count bytes e)

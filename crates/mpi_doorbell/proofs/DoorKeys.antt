@@ -1,11 +1,11 @@
 -- The place of the adapter's side is that of the keys that were written to it.
-use Rattle.std.proofs.Common.{◌≡◌, ℕ, Bool, true, false, List, [], ◌∷◌, ◌++◌, take, refl, ap, sym, ◌∙◌, arith}
+use Rattle.std.proofs.Common.{◌≡◌, ℕ, true, false, List, [], ◌∷◌, ◌++◌, take, refl, ap, sym, ◌∙◌, arith}
 use Rattle.std.proofs.lemmas.Bool.Decides.{nat_tests}
 use Rattle.mpi_doorbell.specs.declared.effect.Effect.TheVariants as effect
 use Rattle.mpi_doorbell.specs.DoorCalls.{DoorCall, Writes, Answers, SetsState, Restarts, Links, after_calls, called, key_of, keys_written}
 use Rattle.mpi_doorbell.specs.DoorRegisters.{DoorRegisters, doorbell_written, diagnostic_written, new_registers, register_written, released, working_written}
 use Rattle.mpi_doorbell.specs.Handshake.{Handshake, asked_by}
-use Rattle.mpi_doorbell.specs.Keys.{IsUnlocking, place_after, place_of, unlock_keys}
+use Rattle.mpi_doorbell.specs.Keys.{IsUnlocking, place_of, unlock_keys}
 use Rattle.mpi_doorbell.proofs.KeyLaw.{Entered, entered, place_of-append}
 
 released_place : (r : DoorRegisters) → (released r).key_place ≡ r.key_place

@@ -1,6 +1,5 @@
 -- Worked cases that compute.
 use Rattle.std.proofs.Common.{◌≡◌, ℕ, List, [], ◌∷◌, refl}
-use Rattle.mpi_doorbell.specs.declared.effect.Effect.{Effect}
 use Rattle.mpi_doorbell.specs.declared.effect.Effect.TheVariants as effect
 use Rattle.mpi_doorbell.specs.declared.state.IocState.TheVariants.{Operational}
 use Rattle.mpi_doorbell.specs.declared.registers.TheConstants.{DOORBELL, WRITE_SEQUENCE, HOST_DIAGNOSTIC, HOST_INTERRUPT_STATUS}

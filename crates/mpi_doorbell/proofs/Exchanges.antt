@@ -1,11 +1,11 @@
 -- How an exchange's array goes on as its handshake does.
-use Rattle.std.proofs.Common.{◌≡◌, ℕ, ◌+◌, ◌-◌, ◌*◌, ◌/◌, ◌%◌, ◌<◌, ◌≤◌, List, ◌++◌, length, take, drop, replicate, slice_range, refl, ap, sym, ◌∙◌, append_assoc, length-append, arith}
+use Rattle.std.proofs.Common.{◌≡◌, ℕ, ◌+◌, ◌-◌, ◌*◌, ◌/◌, ◌%◌, ◌<◌, ◌≤◌, List, ◌++◌, length, take, drop, replicate, slice_range, ap, sym, ◌∙◌, append_assoc, length-append, arith}
 use Rattle.std.proofs.lemmas.Bool.Decides.{nat_tests}
 use Rattle.std.proofs.lemmas.List.{drop-drop, drop-replicate, drop-take, length-take, length-drop, length-take-le, take_at}
 use Rattle.byteorder.specs.Endian.{little_bytes}
 use Rattle.mpi_doorbell.specs.declared.exchange.Progress.TheVariants as progress
 use Rattle.mpi_doorbell.specs.Exchange.{handshake_of}
-use Rattle.mpi_doorbell.specs.Handshake.{Handshake, Idle, Collects, Asked, Replies, asked_by, dword_taken, next_word}
+use Rattle.mpi_doorbell.specs.Handshake.{Idle, Collects, Asked, Replies, asked_by, dword_taken, next_word}
 use Rattle.mpi_doorbell.specs.declared.effect.Effect.TheVariants as effect
 use Rattle.mpi_doorbell.specs.Bytes.{padded}
 use borrow.Rule.Slice.PartMut.{put_mid, post_of}

@@ -1,5 +1,5 @@
 -- A host that is done wrote its message and read its reply.
-use Rattle.std.proofs.Common.{◌≡◌, ℕ, suc, ◌+◌, ◌-◌, ◌*◌, ◌/◌, ◌%◌, ◌<◌, ◌≤◌, ◌⊎◌, Bool, true, false, ◌&&◌, not, eqb, nat_lt, if◌then◌else◌, Option, Some, None, List, [], ◌∷◌, ◌++◌, length, drop, refl, ap, sym, ◌∙◌, subst, inl, inr, append_assoc, arith}
+use Rattle.std.proofs.Common.{◌≡◌, ℕ, suc, ◌/◌, ◌%◌, ◌<◌, ◌⊎◌, Bool, true, false, eqb, if◌then◌else◌, Option, Some, None, List, [], ◌∷◌, ◌++◌, length, drop, refl, ap, sym, ◌∙◌, subst, inl, inr, append_assoc, arith}
 use Rattle.std.specs.List.{All}
 use Rattle.std.proofs.lemmas.Bool.{cond_both, eqb-true, eqb-false, false≢true}
 use Rattle.std.proofs.lemmas.List.{append-nil, nil_from_length}
@@ -14,7 +14,7 @@ use Rattle.mpi_doorbell.specs.declared.step.DoorStep.TheVariants.{Write, Read, D
 use Rattle.mpi_doorbell.specs.Bytes.{has, padded}
 use Rattle.mpi_doorbell.specs.DoorCalls.{dword_bytes}
 use Rattle.mpi_doorbell.specs.HostDoor.{HostDoor, Stepped, reads}
-use Rattle.mpi_doorbell.specs.HostHandshake.{hears_left_over, hears_news, hears_opened, hears_taken, hears_used, hears_word, opens, is_bad_length, is_whole, opening_dword, sends, takes_word}
+use Rattle.mpi_doorbell.specs.HostHandshake.{hears_left_over, hears_news, hears_opened, hears_taken, hears_used, hears_word, opens, is_bad_length, is_whole, opening_dword}
 use Rattle.mpi_doorbell.specs.HostRun.{HandsOver, after_steps, doorbell_reads, doorbell_writes, read_at, word_bytes, written_by}
 use Rattle.mpi_doorbell.specs.HostSteps.{Expects, acts, handshake_of_message, hears, hears_reading, next_step, stands}
 use Rattle.mpi_doorbell.proofs.DoorDwords.{dword_bytes-push}
@@ -131,9 +131,9 @@ used_held : (m w r : List ℕ) (d : HostDoor) (v : ℕ) → Unused m w r d.unsen
 unfolding After Held HeldAt HeldFor
 used_held m w r d v h =
     cond_both (has v DOORBELL_USED) _ _ (After m w (r ++ v ∷ []))
-      (λ _. tt)
-      (λ _. still m w (r ++ v ∷ []) d.unsent d.reply (Awaits reading.LeftOver)
-        (record { used = v; no_writes = h.no_writes; one_read = ap (λ rs. rs ++ v ∷ []) h.no_reads; message = h.message; no_reply = h.no_reply }))
+    (λ _. tt)
+    (λ _. still m w (r ++ v ∷ []) d.unsent d.reply (Awaits reading.LeftOver)
+    (record { used = v; no_writes = h.no_writes; one_read = ap (λ rs. rs ++ v ∷ []) h.no_reads; message = h.message; no_reply = h.no_reply }))
 
 opens_held : (m w r : List ℕ) (d : HostDoor) → Dwords m → Looked m w r d.unsent d.reply → After m w r (opens d)
 unfolding After Held HeldAt HeldFor
@@ -153,15 +153,15 @@ left_over_held : (m w r : List ℕ) (d : HostDoor) (v : ℕ) → Dwords m → Lo
 unfolding After Held HeldAt HeldFor
 left_over_held m w r d v good h =
     cond_both (has v IOC2SYS_DB_STATUS) _ _ (After m w r)
-      (λ _. still m w r d.unsent d.reply Opens h)
-      (λ _. opens_held m w r d good h)
+    (λ _. still m w r d.unsent d.reply Opens h)
+    (λ _. opens_held m w r d good h)
 
 opened_held : (m w r : List ℕ) (d : HostDoor) (v : ℕ) → Sending m w r d.unsent d.reply → After m w r (hears_opened d v)
 unfolding After Held HeldAt HeldFor
 opened_held m w r d v h =
     cond_both (has v IOC2SYS_DB_STATUS) _ _ (After m w r)
-      (λ _. still m w r d.unsent d.reply (Reads reading.Taken) h)
-      (λ _. still m w r d.unsent d.reply (Awaits reading.Opened) h)
+    (λ _. still m w r d.unsent d.reply (Reads reading.Taken) h)
+    (λ _. still m w r d.unsent d.reply (Awaits reading.Opened) h)
 
 sent_held : (m w r u a : List ℕ) → u ≡ [] → Sending m w r u a → Reading m w r u a
 sent_held m w r u a none h =
@@ -188,9 +188,9 @@ dword_held m w r u a f h =
       written = ap (λ ws. ws ++ n ∷ []) h.written;
       one_read = h.one_read;
       message =
-        ap (λ x. x ++ drop 4 u) (dword_bytes-push h.dwords n)
-        ∙ append_assoc (dword_bytes h.dwords) (little_bytes 4 n) (drop 4 u)
-        ∙ ap (λ x. dword_bytes h.dwords ++ x) f.split ∙ h.message;
+          ap (λ x. x ++ drop 4 u) (dword_bytes-push h.dwords n)
+          ∙ append_assoc (dword_bytes h.dwords) (little_bytes 4 n) (drop 4 u)
+          ∙ ap (λ x. dword_bytes h.dwords ++ x) f.split ∙ h.message;
       left = f.rest;
       no_reply = h.no_reply;
     }
@@ -199,17 +199,17 @@ taken_held : (m w r : List ℕ) (d : HostDoor) (v : ℕ) → Sending m w r d.uns
 unfolding After Held HeldAt HeldFor
 taken_held m w r d v h =
     cond_both (has v SYS2IOC_DB_STATUS) _ _ (After m w r)
-      (λ _. still m w r d.unsent d.reply (Awaits reading.Taken) h)
-      (λ _. cond_both (eqb (length d.unsent) 0) _ _ (After m w r)
-        (λ e. still m w r d.unsent d.reply (Awaits reading.News) (sent_held m w r d.unsent d.reply (nil_from_length d.unsent (eqb-true _ _ e)) h))
-        (λ e. dword_held m w r d.unsent d.reply (first_dword d.unsent h.left (eqb-false _ _ e)) h))
+    (λ _. still m w r d.unsent d.reply (Awaits reading.Taken) h)
+    (λ _. cond_both (eqb (length d.unsent) 0) _ _ (After m w r)
+    (λ e. still m w r d.unsent d.reply (Awaits reading.News) (sent_held m w r d.unsent d.reply (nil_from_length d.unsent (eqb-true _ _ e)) h))
+    (λ e. dword_held m w r d.unsent d.reply (first_dword d.unsent h.left (eqb-false _ _ e)) h))
 
 news_held : (m w r : List ℕ) (d : HostDoor) (v : ℕ) → Reading m w r d.unsent d.reply → After m w r (hears_news d v)
 unfolding After Held HeldAt HeldFor
 news_held m w r d v h =
     cond_both (has v IOC2SYS_DB_STATUS) _ _ (After m w r)
-      (λ _. still m w r d.unsent d.reply (Awaits reading.Word) h)
-      (λ _. still m w r d.unsent d.reply (Awaits reading.News) h)
+    (λ _. still m w r d.unsent d.reply (Awaits reading.Word) h)
+    (λ _. still m w r d.unsent d.reply (Awaits reading.News) h)
 
 -- a read of the Doorbell after the last word
 later_held : (m w r u a : List ℕ) (v : ℕ) → is_whole a ≡ true → Reading m w r u a → Reading m w (r ++ v ∷ []) u a
@@ -243,8 +243,8 @@ word_held m w r u a v part h =
       last = [];
       written = h.written;
       read =
-        ap (λ rs. rs ++ v ∷ []) h.read ∙ ap (λ l. h.used ∷ ((h.words ++ l) ++ v ∷ [])) none
-        ∙ ap (λ ws. h.used ∷ (ws ++ v ∷ [])) (append-nil h.words) ∙ ap (λ ws. h.used ∷ ws) (sym (append-nil (h.words ++ v ∷ [])));
+          ap (λ rs. rs ++ v ∷ []) h.read ∙ ap (λ l. h.used ∷ ((h.words ++ l) ++ v ∷ [])) none
+          ∙ ap (λ ws. h.used ∷ (ws ++ v ∷ [])) (append-nil h.words) ∙ ap (λ ws. h.used ∷ ws) (sym (append-nil (h.words ++ v ∷ [])));
       message = h.message;
       got = ap (λ x. x ++ little_bytes 2 v) h.got ∙ sym (word_bytes-push h.words v);
       ended = inl refl;
@@ -254,12 +254,12 @@ hears_word_held : (m w r : List ℕ) (d : HostDoor) (v : ℕ) → Reading m w r 
 unfolding After Held HeldAt HeldFor
 hears_word_held m w r d v h =
     cond_both (is_whole d.reply) _ _ (After m w (r ++ v ∷ []))
-      (λ whole. cond_both (has v DOORBELL_USED) _ _ (After m w (r ++ v ∷ []))
-        (λ _. still m w _ d.unsent d.reply (Awaits reading.Word) (later_held m w r d.unsent d.reply v whole h))
-        (λ _. still m w _ d.unsent d.reply Finishes (later_held m w r d.unsent d.reply v whole h)))
-      (λ part. cond_both (is_bad_length d.reply v) _ _ (After m w (r ++ v ∷ []))
-        (λ _. tt)
-        (λ _. still m w _ d.unsent _ (Reads reading.News) (word_held m w r d.unsent d.reply v part h)))
+    (λ whole. cond_both (has v DOORBELL_USED) _ _ (After m w (r ++ v ∷ []))
+    (λ _. still m w _ d.unsent d.reply (Awaits reading.Word) (later_held m w r d.unsent d.reply v whole h))
+    (λ _. still m w _ d.unsent d.reply Finishes (later_held m w r d.unsent d.reply v whole h)))
+    (λ part. cond_both (is_bad_length d.reply v) _ _ (After m w (r ++ v ∷ []))
+    (λ _. tt)
+    (λ _. still m w _ d.unsent _ (Reads reading.News) (word_held m w r d.unsent d.reply v part h)))
 
 quiet : (m w r : List ℕ) (s : Stepped) → After m w r s → After m w (r ++ []) s
 quiet m w r s h = subst (λ (rs : List ℕ). After m w rs s) (sym (append-nil r)) h
@@ -323,7 +323,7 @@ run_held m w r d (v ∷ vs) good h =
     let s : Stepped = next_step d v in
     let later = run_held m (w ++ written_by s.step) (r ++ read_at d.stage v) s.door vs good (step_held m w r d v good h) in
     subst (λ (ws : List ℕ). Held m ws (r ++ doorbell_reads d (v ∷ vs)) (after_steps s.door vs)) (append_assoc w (written_by s.step) (doorbell_writes s.door vs))
-      (subst (λ (rs : List ℕ). Held m ((w ++ written_by s.step) ++ doorbell_writes s.door vs) rs (after_steps s.door vs)) (append_assoc r (read_at d.stage v) (doorbell_reads s.door vs)) later)
+    (subst (λ (rs : List ℕ). Held m ((w ++ written_by s.step) ++ doorbell_writes s.door vs) rs (after_steps s.door vs)) (append_assoc r (read_at d.stage v) (doorbell_reads s.door vs)) later)
 
 -- only the last step of a handshake is done
 
@@ -356,8 +356,8 @@ reading_goes_on m w r u a d reading.Taken v h =
 reading_goes_on m w r u a d reading.News v h = ends_if (has v IOC2SYS_DB_STATUS) _ _ (not_read _) (not_read _)
 reading_goes_on m w r u a d reading.Word v h =
     ends_if (is_whole d.reply) _ _
-      (ends_if (has v DOORBELL_USED) _ _ (not_read _) (not_write _ _))
-      (ends_if (is_bad_length d.reply v) _ _ (not_refused 6 v) (not_write _ _))
+    (ends_if (has v DOORBELL_USED) _ _ (not_read _) (not_write _ _))
+    (ends_if (is_bad_length d.reply v) _ _ (not_refused 6 v) (not_write _ _))
 reading_goes_on m w r u a d reading.Unlocked v h = absurd h
 reading_goes_on m w r u a d reading.ResetOver v h = absurd h
 reading_goes_on m w r u a d (reading.State kind) v h = absurd h

@@ -1,5 +1,5 @@
 -- The host waits for a value exactly after a read.
-use Rattle.std.proofs.Common.{◌≡◌, ℕ, ◌+◌, ◌%◌, ◌&&◌, ◌||◌, not, eqb, Option, Some, None, List, [], length, slice_get, bit_and, refl}
+use Rattle.std.proofs.Common.{ℕ, ◌||◌, eqb, Option, Some, None, length, slice_get, bit_and, refl}
 use Rattle.std.proofs.lemmas.Bool.{cond_both}
 use Rattle.mpi_doorbell.specs.declared.registers.TheConstants.{IOC_STATE_MASK, IOC_STATE_READY, IOC_STATE_OPERATIONAL, IOC_STATE_FAULT, DOORBELL_USED, SYS2IOC_DB_STATUS, IOC2SYS_DB_STATUS, DIAG_WRITE_ENABLE, DIAG_RESET_ADAPTER}
 use Rattle.mpi_doorbell.specs.declared.stage.Reading.{Reading}
@@ -24,14 +24,14 @@ sends_turn d = cond_both (eqb (length d.unsent) 0) _ _ Turn (λ _. refl) (λ _. 
 word_turn : (d : HostDoor) (value : ℕ) → Turn (hears_word d value)
 word_turn d value =
     cond_both (is_whole d.reply) _ _ Turn
-      (λ _. cond_both (has value DOORBELL_USED) _ _ Turn (λ _. refl) (λ _. tt))
-      (λ _. cond_both (is_bad_length d.reply value) _ _ Turn (λ _. tt) (λ _. tt))
+    (λ _. cond_both (has value DOORBELL_USED) _ _ Turn (λ _. refl) (λ _. tt))
+    (λ _. cond_both (is_bad_length d.reply value) _ _ Turn (λ _. tt) (λ _. tt))
 
 state_turn : (d : HostDoor) (kind : ResetKind) (value : ℕ) → Turn (hears_state d kind value)
 state_turn d kind value =
     let state : ℕ = bit_and value IOC_STATE_MASK in
     cond_both (eqb state IOC_STATE_READY) _ _ Turn (λ _. tt)
-      (λ _. cond_both (eqb state IOC_STATE_FAULT || eqb state IOC_STATE_OPERATIONAL) _ _ Turn (λ _. tt) (λ _. refl))
+    (λ _. cond_both (eqb state IOC_STATE_FAULT || eqb state IOC_STATE_OPERATIONAL) _ _ Turn (λ _. tt) (λ _. refl))
 
 hears_turn : (d : HostDoor) (x : Reading) (value : ℕ) → Turn (hears_reading d x value)
 hears_turn d reading.Used value = cond_both (has value DOORBELL_USED) _ _ Turn (λ _. tt) (λ _. refl)

@@ -1,5 +1,5 @@
 -- HostDiagnostic is unlocked by the whole sequence alone.
-use Rattle.std.proofs.Common.{◌≡◌, ℕ, zero, suc, ◌+◌, ◌⊎◌, Bool, true, false, if◌then◌else◌, List, [], ◌∷◌, ◌++◌, take, slice_get, refl, ap, sym, ◌∙◌, subst, inl, inr, append_assoc, add-one}
+use Rattle.std.proofs.Common.{◌≡◌, ℕ, zero, suc, ◌+◌, ◌⊎◌, true, false, if◌then◌else◌, List, [], ◌∷◌, ◌++◌, take, slice_get, refl, ap, sym, ◌∙◌, subst, inl, inr, append_assoc, add-one}
 use Rattle.std.proofs.lemmas.Bool.Decides.{eqb_tells}
 use Rattle.std.proofs.lemmas.List.{append-nil}
 use Rattle.mpi_doorbell.specs.Keys.{is_key, place_after, place_of, unlock_keys}
@@ -56,8 +56,8 @@ entered_step keys k (inr e) h =
     record {
       earlier = h.earlier;
       split =
-        ap (λ xs. xs ++ k ∷ []) h.split ∙ append_assoc h.earlier (take (place_of 0 keys) unlock_keys) (k ∷ [])
-        ∙ ap (λ xs. h.earlier ++ xs) (sym e.1) ∙ ap (λ n. h.earlier ++ take n unlock_keys) (sym on);
+          ap (λ xs. xs ++ k ∷ []) h.split ∙ append_assoc h.earlier (take (place_of 0 keys) unlock_keys) (k ∷ [])
+          ∙ ap (λ xs. h.earlier ++ xs) (sym e.1) ∙ ap (λ n. h.earlier ++ take n unlock_keys) (sym on);
       fresh = h.fresh;
     }
 
@@ -65,8 +65,8 @@ entered_more : (before keys : List ℕ) → Entered before → Entered (before +
 entered_more before [] h = subst Entered (sym (append-nil before)) h
 entered_more before (k ∷ keys) h =
     subst Entered (append_assoc before (k ∷ []) keys)
-      (entered_more (before ++ k ∷ []) keys
-        (entered_step before k (goes_on_if (place_of 0 before) k (next_of unlock_keys (place_of 0 before) k)) h))
+    (entered_more (before ++ k ∷ []) keys
+    (entered_step before k (goes_on_if (place_of 0 before) k (next_of unlock_keys (place_of 0 before) k)) h))
 
 pub entered : (keys : List ℕ) → Entered keys
 entered keys = entered_more [] keys (record { earlier = []; split = refl; fresh = refl })

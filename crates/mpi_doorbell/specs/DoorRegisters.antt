@@ -1,5 +1,5 @@
 -- The adapter's side of the doorbell: its registers, and what each call does to them.
-use Rattle.std.specs.Prelude.{ℕ, ◌+◌, ◌*◌, ◌/◌, ◌%◌, ◌^◌, Bool, true, false, ◌&&◌, not, ◌==◌, nat_lt, nat_le, if◌then◌else◌, List, [], ◌∷◌, drop, slice_get, bit_and, Option, Some, None, unwrap_or}
+use Rattle.std.specs.Prelude.{ℕ, ◌+◌, ◌*◌, ◌/◌, ◌%◌, ◌^◌, Bool, true, false, ◌&&◌, not, ◌==◌, nat_lt, nat_le, if◌then◌else◌, List, [], drop, bit_and, Option, unwrap_or}
 use Rattle.byteorder.specs.Endian.{little_number}
 use Rattle.mpi_doorbell.specs.declared.effect.Effect.{Effect}
 use Rattle.mpi_doorbell.specs.declared.effect.Effect.TheVariants as effect
@@ -107,14 +107,14 @@ abbrev pub diagnostic_written : DoorRegisters → ℕ → Written
 diagnostic_written r value =
     let held : DoorRegisters = record r { hold_reset = has value DIAG_HOLD_IOC_RESET } in
     if is_unlocked r then
-      (if has value DIAG_RESET_ADAPTER then reset_begun held else quietly (released held))
+    (if has value DIAG_RESET_ADAPTER then reset_begun held else quietly (released held))
     else quietly r
 
 -- function 0x42 begins a handshake of 1 to 32 dwords
 abbrev pub handshake_opened : DoorRegisters → ℕ → Written
 handshake_opened r dwords =
     if nat_lt 0 dwords && nat_le dwords 32 then
-      quietly (record r { handshake = Collects dwords []; ioc2sys = true })
+    quietly (record r { handshake = Collects dwords []; ioc2sys = true })
     else record { registers = r; effect = effect.Fault 1 }
 
 -- a function is written to the Doorbell
@@ -128,12 +128,12 @@ function_written r function dwords =
 abbrev pub doorbell_written : DoorRegisters → ℕ → Written
 doorbell_written r value =
     if is_idle r.handshake then
-      function_written r (value / 2 ^ DOORBELL_FUNCTION_SHIFT) (value / 2 ^ DOORBELL_ADD_DWORDS_SHIFT % 256)
+    function_written r (value / 2 ^ DOORBELL_FUNCTION_SHIFT) (value / 2 ^ DOORBELL_ADD_DWORDS_SHIFT % 256)
     else
-      record {
-        registers = record r { handshake = dword_taken r.handshake value };
-        effect = asked_by r.handshake value;
-      }
+    record {
+      registers = record r { handshake = dword_taken r.handshake value };
+      effect = asked_by r.handshake value;
+    }
 
 -- a write to HostInterruptStatus clears IOC2SYS_DB_STATUS; while a reply is read it goes on to the next
 -- word or ends the handshake, and so sets it once more

@@ -6,7 +6,7 @@ use Rattle.mpi_doorbell.specs.declared.stage.Reading.TheVariants as reading
 use Rattle.mpi_doorbell.specs.declared.stage.ResetKind.{ResetKind}
 use Rattle.mpi_doorbell.specs.declared.stage.ResetKind.TheVariants.{Diagnostic, MessageUnit}
 use Rattle.mpi_doorbell.specs.declared.stage.Stage.{Stage}
-use Rattle.mpi_doorbell.specs.declared.stage.Stage.TheVariants.{Reads, Awaits, Opens, WritesKey, Locks, ResetsUnit, Finishes, Ended}
+use Rattle.mpi_doorbell.specs.declared.stage.Stage.TheVariants.{Awaits, Ended}
 use Rattle.mpi_doorbell.specs.declared.step.DoorStep.{DoorStep}
 use Rattle.mpi_doorbell.specs.declared.step.DoorStep.TheVariants.{Write, Read, Done, Refused}
 use Rattle.mpi_doorbell.specs.Bytes.{padded}

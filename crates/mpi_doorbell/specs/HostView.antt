@@ -1,5 +1,5 @@
 -- How the host's side is kept: two arrays, with their places counted in dwords and words.
-use Rattle.std.specs.Prelude.{ℕ, ◌*◌, ◌≤◌, List, slice_index}
+use Rattle.std.specs.Prelude.{ℕ, ◌≤◌, List, slice_index}
 
 -- the places are within the arrays, and MsgLength was looked at as it came
 pub record IsSound (dwords sent words : ℕ) (reply : List ℕ) : Type 0 where

@@ -7,10 +7,7 @@ pub enum Effect {
     None,
     /// A handshake's message is whole and waits for its answer. It is the first `length` bytes, from 4
     /// to 128; the others are 0.
-    Asked {
-        length: u8,
-        bytes: [u8; 128],
-    },
+    Asked { length: u8, bytes: [u8; 128] },
     /// The doorbell's function message unit reset was written: the adapter begins a reset.
     UnitReset,
     /// RESET_ADAPTER was written: the adapter begins a reset.

@@ -4,13 +4,11 @@ ghost use Rattle.mpi_doorbell.specs.Bytes.{IsReply};
 ghost use Rattle.mpi_doorbell.specs.Handshake.{asked_by, Collects, dword_taken, Idle, init_by, is_idle, is_replying, next_word, Replies, WaitsIfAsked, word_read};
 ghost use Rattle.mpi_doorbell.specs.Sizes.{IsAskedWithin};
 
-use std::marker::Model;
-
-use byteorder::{ByteOrder, LittleEndian};
-
 use crate::effect::Effect;
 use crate::padded::pad;
 use crate::registers::FUNCTION_IOC_INIT;
+use byteorder::{ByteOrder, LittleEndian};
+use std::marker::Model;
 
 /// How far a handshake is.
 #[derive(Clone, Copy)]
@@ -18,19 +16,11 @@ pub enum Progress {
     /// There is none.
     Idle,
     /// `got` dwords came, and `missing` are missing.
-    Collects {
-        got: u8,
-        missing: u8,
-    },
+    Collects { got: u8, missing: u8 },
     /// The message of so many dwords waits for its reply.
-    Asked {
-        dwords: u8,
-    },
+    Asked { dwords: u8 },
     /// The word of this place is read, of so many.
-    Replies {
-        word: u8,
-        words: u8,
-    },
+    Replies { word: u8, words: u8 },
 }
 
 /// The adapter's side of a handshake.
@@ -70,7 +60,10 @@ impl Exchange {
         ensures { result ≡ Collects dwords [] }
     {
         Exchange {
-            progress: Progress::Collects { got: 0, missing: dwords },
+            progress: Progress::Collects {
+                got: 0,
+                missing: dwords,
+            },
             bytes: [0; 128],
         }
     }
@@ -117,7 +110,9 @@ impl Exchange {
         ensures { result ≡ word_read self.now }
     {
         match self.progress {
-            Progress::Replies { word, .. } => LittleEndian::read_u16(&self.bytes[2 * usize::from(word)..]),
+            Progress::Replies { word, .. } => LittleEndian::read_u16(
+                &self.bytes[2 * usize::from(word)..],
+            ),
             _ => 0,
         }
     }
@@ -131,7 +126,10 @@ impl Exchange {
             return false;
         };
         if word + 1 < words {
-            self.progress = Progress::Replies { word: word + 1, words };
+            self.progress = Progress::Replies {
+                word: word + 1,
+                words,
+            };
             return true;
         }
         self.progress = Progress::Idle;
@@ -155,7 +153,10 @@ pub fn replying(reply: &[u8]) -> Exchange
     ensures { result ≡ Replies reply.now }
 {
     Exchange {
-        progress: Progress::Replies { word: 0, words: (reply.len() / 2) as u8 },
+        progress: Progress::Replies {
+            word: 0,
+            words: (reply.len() / 2) as u8,
+        },
         bytes: pad(reply),
     }
 }

@@ -8,14 +8,12 @@ ghost use Rattle.mpi_doorbell.specs.HostReset.{hears_reset_over, hears_state, he
 ghost use Rattle.mpi_doorbell.specs.HostSteps.{acts, diagnostic_reset, Expects, ExpectsAfter, handshake_of_message, hears, hears_reading, look_at_doorbell, next_step, TakesTurn, unit_reset};
 ghost use Rattle.mpi_doorbell.specs.Sizes.{IsDoneWithin};
 
-use std::marker::Model;
-
-use byteorder::{ByteOrder, LittleEndian};
-
 use crate::padded::pad;
 use crate::registers::*;
 use crate::stage::{Reading, ResetKind, Stage};
 use crate::step::DoorStep;
+use byteorder::{ByteOrder, LittleEndian};
+use std::marker::Model;
 
 /// What the host writes to WriteSequence to unlock HostDiagnostic: a 0, which begins anew, and the
 /// keys (mpi2.h, MPI2_WRSEQ_FLUSH_KEY_VALUE and MPI2_WRSEQ_1ST_KEY_VALUE to
@@ -45,9 +43,9 @@ impl Model for DoorHost {
     ghost Value = { HostDoor };
 
     ghost view = { λ d. record {
-        stage = d.stage;
-        unsent = slice_range d.message (4 * d.sent) (4 * d.dwords);
-        reply = take (2 * d.words) d.reply;
+      stage = d.stage;
+      unsent = slice_range d.message (4 * d.sent) (4 * d.dwords);
+      reply = take (2 * d.words) d.reply;
     } };
 
     ghost invariant = { λ d. IsSound d.dwords d.sent d.words d.reply };
@@ -130,7 +128,11 @@ impl DoorHost {
             Stage::Reads(reading) => self.read(reading),
             Stage::Opens => self.open(),
             Stage::WritesKey(place) => self.write_key(place),
-            Stage::Locks => self.write(Stage::Reads(Reading::State(ResetKind::Diagnostic)), WRITE_SEQUENCE, 0),
+            Stage::Locks => self.write(
+                Stage::Reads(Reading::State(ResetKind::Diagnostic)),
+                WRITE_SEQUENCE,
+                0,
+            ),
             Stage::ResetsUnit => {
                 let reset = u32::from(FUNCTION_MESSAGE_UNIT_RESET) << DOORBELL_FUNCTION_SHIFT;
                 self.write(Stage::Reads(Reading::UnitReset), DOORBELL, reset)
@@ -178,7 +180,9 @@ impl DoorHost {
         ensures size { IsDoneWithin result }
     {
         self.stage = Stage::Awaits(reading);
-        DoorStep::Read { reg: reading.register() }
+        DoorStep::Read {
+            reg: reading.register(),
+        }
     }
 
     fn write(&mut self, next: Stage, reg: u16, value: u32) -> DoorStep
@@ -359,7 +363,11 @@ impl DoorHost {
         if value & DIAG_WRITE_ENABLE == 0 {
             return self.refuse(21, value);
         }
-        self.write(Stage::Reads(Reading::ResetOver), HOST_DIAGNOSTIC, value | DIAG_RESET_ADAPTER)
+        self.write(
+            Stage::Reads(Reading::ResetOver),
+            HOST_DIAGNOSTIC,
+            value | DIAG_RESET_ADAPTER,
+        )
     }
 
     fn hear_reset_over(&mut self, value: u32) -> DoorStep
@@ -381,7 +389,10 @@ impl DoorHost {
         match value & IOC_STATE_MASK {
             IOC_STATE_READY => {
                 self.stage = Stage::Ended;
-                DoorStep::Done { length: 0, bytes: pad(&[]) }
+                DoorStep::Done {
+                    length: 0,
+                    bytes: pad(&[]),
+                }
             }
             IOC_STATE_FAULT | IOC_STATE_OPERATIONAL => self.refuse(kind.state_step(), value),
             _ => self.read(Reading::State(kind)),
@@ -407,6 +418,9 @@ impl DoorHost {
         self.stage = Stage::Ended;
         let mut bytes = [0; 4];
         LittleEndian::write_u32(&mut bytes, value);
-        DoorStep::Done { length: 4, bytes: pad(&bytes) }
+        DoorStep::Done {
+            length: 4,
+            bytes: pad(&bytes),
+        }
     }
 }

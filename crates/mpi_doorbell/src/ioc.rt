@@ -6,14 +6,12 @@ ghost use Rattle.mpi_doorbell.specs.DoorRegisters.{answered, diagnostic_value, d
 ghost use Rattle.mpi_doorbell.specs.Keys.{place_after};
 ghost use Rattle.mpi_doorbell.specs.Sizes.{IsAskedWithin};
 
-use std::marker::Model;
-
-use byteorder::{ByteOrder, LittleEndian};
-
 use crate::effect::Effect;
 use crate::exchange::{Exchange, replying};
 use crate::registers::*;
 use crate::state::IocState;
+use byteorder::{ByteOrder, LittleEndian};
+use std::marker::Model;
 
 /// The keys that unlock HostDiagnostic, in order (mpi2.h, MPI2_WRSEQ_1ST_KEY_VALUE to
 /// MPI2_WRSEQ_6TH_KEY_VALUE).
@@ -51,17 +49,17 @@ impl Model for DoorIoc {
     ghost Value = { DoorRegisters };
 
     ghost view = { λ d. record {
-        state = d.state;
-        who_init = d.who_init;
-        handshake = d.exchange;
-        ioc2sys = d.ioc2sys;
-        key_place = d.key_place;
-        hold_reset = d.hold_reset;
-        reset_adapter = d.reset_adapter;
-        reset_history = d.reset_history;
-        link_waits = d.link_waits;
-        interrupt_mask = d.interrupt_mask;
-        reply_post_host_index = d.reply_post_host_index;
+      state = d.state;
+      who_init = d.who_init;
+      handshake = d.exchange;
+      ioc2sys = d.ioc2sys;
+      key_place = d.key_place;
+      hold_reset = d.hold_reset;
+      reset_adapter = d.reset_adapter;
+      reset_history = d.reset_history;
+      link_waits = d.link_waits;
+      interrupt_mask = d.interrupt_mask;
+      reply_post_host_index = d.reply_post_host_index;
     } };
 
     ghost invariant = { λ d. (d.who_init < 8) × (d.key_place < 7) };

@@ -34,5 +34,5 @@ pub fn handshakes_hand_over()
         Expects (after_steps (handshake_of_message message) values).stage value →
         (next_step (after_steps (handshake_of_message message) values) value).step ≡ DoorStep.Done count bytes →
         HandsOver message (doorbell_writes (handshake_of_message message) values)
-            (doorbell_reads (handshake_of_message message) values) count bytes }
+        (doorbell_reads (handshake_of_message message) values) count bytes }
 {}

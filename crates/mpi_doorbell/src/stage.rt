@@ -59,7 +59,11 @@ impl Reading {
     {
         match self {
             Reading::Used | Reading::Word | Reading::State(_) | Reading::Doorbell => DOORBELL,
-            Reading::LeftOver | Reading::Opened | Reading::Taken | Reading::News | Reading::UnitReset => HOST_INTERRUPT_STATUS,
+            Reading::LeftOver
+            | Reading::Opened
+            | Reading::Taken
+            | Reading::News
+            | Reading::UnitReset => HOST_INTERRUPT_STATUS,
             Reading::Unlocked | Reading::ResetOver => HOST_DIAGNOSTIC,
         }
     }

@@ -1,8 +1,8 @@
 //! The adapter's states.
-use crate::registers::{IOC_STATE_FAULT, IOC_STATE_OPERATIONAL, IOC_STATE_READY, IOC_STATE_RESET};
-
 ghost use Rattle.std.specs.Prelude.{◌≡◌};
 ghost use Rattle.mpi_doorbell.specs.State.{state_bits};
+
+use crate::registers::{IOC_STATE_FAULT, IOC_STATE_OPERATIONAL, IOC_STATE_READY, IOC_STATE_RESET};
 
 /// The state of an adapter, as bits 31 to 28 of the Doorbell say it (mpi2.h, MPI2_IOC_STATE_MASK).
 #[derive(Clone, Copy, Debug, PartialEq, Eq)]

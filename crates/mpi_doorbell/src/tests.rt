@@ -8,7 +8,9 @@ use super::*;
 const IOC_FACTS: [u8; 12] = [0, 0, 0, 3, 0, 0, 0, 0, 0, 0, 0, 0];
 
 /// A reply of 20 bytes: its MsgLength is 5 dwords.
-const REPLY: [u8; 20] = [1, 2, 5, 3, 4, 5, 6, 7, 8, 9, 10, 11, 12, 13, 0, 0, 16, 17, 18, 19];
+const REPLY: [u8; 20] = [
+    1, 2, 5, 3, 4, 5, 6, 7, 8, 9, 10, 11, 12, 13, 0, 0, 16, 17, 18, 19,
+];
 
 /// Plays the host against the adapter, which answers each message by the reply and is linked at once
 /// after a reset, and gives the host's last step.
@@ -20,7 +22,10 @@ fn play(mut host: DoorHost, ioc: &mut DoorIoc, reply: &[u8]) -> DoorStep
     for _ in 0..1000 {
         match host.next(value) {
             DoorStep::Read { reg } => value = Some(ioc.read(reg)),
-            DoorStep::Write { reg, value: written } => {
+            DoorStep::Write {
+                reg,
+                value: written,
+            } => {
                 value = None;
                 match ioc.write(reg, written) {
                     Effect::None => {}
@@ -67,10 +72,28 @@ fn opening(message: &[u8]) -> DoorStep
 
 #[test]
 fn the_host_writes_its_words(rt: HostRuntime) {
-    assert_eq!(rt; opening(&IOC_FACTS), DoorStep::Write { reg: 0x00, value: 0x4203_0000 });
-    assert_eq!(rt; opening(&[0; 72]), DoorStep::Write { reg: 0x00, value: 0x4212_0000 });
+    assert_eq!(rt;
+        opening(&IOC_FACTS),
+        DoorStep::Write {
+            reg: 0x00,
+            value: 0x4203_0000
+        }
+    );
+    assert_eq!(rt;
+        opening(&[0; 72]),
+        DoorStep::Write {
+            reg: 0x00,
+            value: 0x4212_0000
+        }
+    );
     let reset = DoorHost::unit().next(None);
-    assert_eq!(rt; reset, DoorStep::Write { reg: 0x00, value: 0x4000_0000 });
+    assert_eq!(rt;
+        reset,
+        DoorStep::Write {
+            reg: 0x00,
+            value: 0x4000_0000
+        }
+    );
     laws::handshakes_hand_over();
 }
 
@@ -79,7 +102,13 @@ fn handshakes_are_played_through(rt: HostRuntime) {
     let mut ioc = DoorIoc::new();
     assert_eq!(rt; ioc.read(0x00), 0x1000_0000);
     let done = play(DoorHost::handshake(&IOC_FACTS), &mut ioc, &REPLY);
-    assert_eq!(rt; done, DoorStep::Done { length: 20, bytes: extended(&REPLY) });
+    assert_eq!(rt;
+        done,
+        DoorStep::Done {
+            length: 20,
+            bytes: extended(&REPLY)
+        }
+    );
     assert_eq!(rt; (ioc.read(0x00), ioc.read(0x30)), (0x1000_0000, 0));
 
     // IOC Init by WhoInit 4, which is refused, and then isn't.
@@ -98,21 +127,42 @@ fn handshakes_are_played_through(rt: HostRuntime) {
     let mut short = REPLY;
     short[2] = 4;
     let refused = play(DoorHost::handshake(&IOC_FACTS), &mut ioc, &short);
-    assert_eq!(rt; refused, DoorStep::Refused { step: 6, value: 0x2C00_0304 });
+    assert_eq!(rt;
+        refused,
+        DoorStep::Refused {
+            step: 6,
+            value: 0x2C00_0304
+        }
+    );
     let used = play(DoorHost::handshake(&IOC_FACTS), &mut ioc, &REPLY);
-    assert_eq!(rt; used, DoorStep::Refused { step: 1, value: 0x2C00_0304 });
+    assert_eq!(rt;
+        used,
+        DoorStep::Refused {
+            step: 1,
+            value: 0x2C00_0304
+        }
+    );
     laws::messages_are_their_dwords();
 }
 
 #[test]
 fn resets_and_faults(rt: HostRuntime) {
     let mut ioc = DoorIoc::new();
-    let ready = DoorStep::Done { length: 0, bytes: [0; 128] };
+    let ready = DoorStep::Done {
+        length: 0,
+        bytes: [0; 128],
+    };
     assert_eq!(rt; play(DoorHost::diag(), &mut ioc, &REPLY), ready);
     assert_eq!(rt; ioc.read(0x08), 0x20);
     assert_eq!(rt; play(DoorHost::unit(), &mut ioc, &REPLY), ready);
     let seen = play(DoorHost::look(), &mut ioc, &REPLY);
-    assert_eq!(rt; seen, DoorStep::Done { length: 4, bytes: extended(&[0, 0, 0, 0x10]) });
+    assert_eq!(rt;
+        seen,
+        DoorStep::Done {
+            length: 4,
+            bytes: extended(&[0, 0, 0, 0x10])
+        }
+    );
 
     // An adapter that is linked while HOLD_IOC_RESET is set stays in RESET until it is cleared.
     for key in [0xF, 4, 0xB, 2, 7, 0xD] {
@@ -132,7 +182,13 @@ fn resets_and_faults(rt: HostRuntime) {
     ioc.write(0x34, 5);
     assert_eq!(rt; (ioc.read(0x00), ioc.read(0x34)), (0x4000_0002, 0));
     let stopped = play(DoorHost::unit(), &mut ioc, &REPLY);
-    assert_eq!(rt; stopped, DoorStep::Refused { step: 31, value: 0x4000_0002 });
+    assert_eq!(rt;
+        stopped,
+        DoorStep::Refused {
+            step: 31,
+            value: 0x4000_0002
+        }
+    );
 }
 
 /// These bytes, and zeros after them.

@@ -1,4 +1,4 @@
-use Rattle.std.proofs.Common.{arith, subst, sym, ap, ◌∙◌, ◌≤◌, ◌*◌, ◌+◌, ◌-◌, length, refl}
+use Rattle.std.proofs.Common.{arith, subst, sym, ap, ◌∙◌, ◌≤◌, ◌*◌, ◌+◌, ◌-◌, length}
 use Rattle.mpi_doorbell.proofs.Exchanges.{asked_now, collected, taken_last, taken_more}
 use Rattle.mpi_doorbell.specs.Handshake.{asked_by, dword_taken}
 use Rattle.mpi_doorbell.specs.Exchange.{handshake_of, IsSound}

@@ -1,4 +1,4 @@
-use Rattle.std.proofs.Common.{◌≡◌, None, Some, subst, sym}
+use Rattle.std.proofs.Common.{◌≡◌, subst, sym}
 use Rattle.mpi_doorbell.proofs.HostTurns.{acts_turn, expects_after, value_turn}
 use Rattle.mpi_doorbell.specs.declared.step.DoorStep.{DoorStep}
 use Rattle.mpi_doorbell.specs.HostDoor.{HostDoor, Stepped}
