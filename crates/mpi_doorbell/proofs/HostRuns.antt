@@ -19,7 +19,7 @@ use Rattle.mpi_doorbell.specs.HostRun.{HandsOver, after_steps, doorbell_reads, d
 use Rattle.mpi_doorbell.specs.HostSteps.{Expects, acts, handshake_of_message, hears, hears_reading, next_step, stands}
 use Rattle.mpi_doorbell.proofs.DoorDwords.{dword_bytes-push}
 
-IsByte : ℕ → Type 0
+abbrev pub IsByte : ℕ → Type 0
 IsByte b = b < 256
 
 -- four bytes are those of the number that they are
@@ -37,16 +37,15 @@ word_bytes-push [] w = append-nil (little_bytes 2 w)
 word_bytes-push (x ∷ ws) w = ap (λ ys. little_bytes 2 x ++ ys) (word_bytes-push ws w) ∙ sym (append_assoc (little_bytes 2 x) (word_bytes ws) (little_bytes 2 w))
 
 -- what is left of a message: bytes, in whole dwords
-record Dwords (u : List ℕ) : Type 0 where
-  bytes : All IsByte u
-  whole : length u % 4 ≡ 0
+pub record Dwords (u : List ℕ) : Type 0 where
+  pub bytes : All IsByte u
+  pub whole : length u % 4 ≡ 0
 
-record FirstDword (u : List ℕ) : Type 0 where
-  split : little_bytes 4 (little_number 4 u) ++ drop 4 u ≡ u
-  rest : Dwords (drop 4 u)
+pub record FirstDword (u : List ℕ) : Type 0 where
+  pub split : little_bytes 4 (little_number 4 u) ++ drop 4 u ≡ u
+  pub rest : Dwords (drop 4 u)
 
-first_dword : (u : List ℕ) → Dwords u → (length u ≡ 0 → ⊥) → FirstDword u
-unfolding IsByte
+pub first_dword : (u : List ℕ) → Dwords u → (length u ≡ 0 → ⊥) → FirstDword u
 first_dword [] h n = absurd (n refl)
 first_dword (a ∷ []) h n = absurd (omega (arith, h.whole))
 first_dword (a ∷ b ∷ []) h n = absurd (omega (arith, h.whole))
@@ -420,7 +419,6 @@ pub hands_over : (m : List ℕ) (vs : List (Option ℕ)) (v : Option ℕ) (count
     → All (λ b. b < 256) m → length m % 4 ≡ 0 → Expects (after_steps (handshake_of_message m) vs).stage v
     → (next_step (after_steps (handshake_of_message m) vs) v).step ≡ Done count bytes
     → HandsOver m (doorbell_writes (handshake_of_message m) vs) (doorbell_reads (handshake_of_message m) vs) count bytes
-unfolding IsByte
 hands_over m vs v count bytes are_bytes whole x e =
     let good : Dwords m = record { bytes = are_bytes; whole = whole } in
     done_step m _ _ (after_steps (handshake_of_message m) vs) v count bytes (run_held m [] [] (handshake_of_message m) vs good (begun m)) x e

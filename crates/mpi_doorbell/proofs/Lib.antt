@@ -5,3 +5,4 @@ pub mod DoorKeys
 pub mod DoorDwords
 pub mod HostTurns
 pub mod HostRuns
+pub mod Meetings

@@ -12,3 +12,4 @@ pub mod HostSteps
 pub mod HostView
 pub mod DoorCalls
 pub mod HostRun
+pub mod Meeting
