@@ -217,6 +217,26 @@ register_asks r reg value count bytes =
     (λ _ e. absurd (diagnostic_asks_none r value count bytes e))
     (λ _. cond_both (is_fault r.state) _ _ P (λ _ e. absurd (cc)) (λ _ e. working_asks r reg value count bytes e)))
 
+-- and it is written to the Doorbell
+
+working_asks_at : (r : DoorRegisters) (reg value count : ℕ) (bytes : List ℕ) → (working_written r reg value).effect ≡ effect.Asked count bytes → reg ≡ 0
+working_asks_at r reg value count bytes =
+    let P : Written → Type 0 = λ w. w.effect ≡ effect.Asked count bytes → reg ≡ 0 in
+    cond_both (eqb reg 0) _ _ P
+      (λ at _. eqb-true _ _ at)
+      (λ _. cond_both (eqb reg 0x30) _ _ P (λ _ e. absurd (cc))
+        (λ _. cond_both (eqb reg 0x34) _ _ P (λ _ e. absurd (cc))
+          (λ _. cond_both (eqb reg 0x6C) _ _ P (λ _ e. absurd (cc)) (λ _ e. absurd (cc)))))
+
+register_asks_at : (r : DoorRegisters) (reg value count : ℕ) (bytes : List ℕ) → (register_written r reg value).effect ≡ effect.Asked count bytes → reg ≡ 0
+register_asks_at r reg value count bytes =
+    let P : Written → Type 0 = λ w. w.effect ≡ effect.Asked count bytes → reg ≡ 0 in
+    cond_both (eqb reg 4) _ _ P
+      (λ _ e. absurd (cc))
+      (λ _. cond_both (eqb reg 8) _ _ P
+        (λ _ e. absurd (diagnostic_asks_none r value count bytes e))
+        (λ _. cond_both (is_fault r.state) _ _ P (λ _ e. absurd (cc)) (λ _ e. working_asks_at r reg value count bytes e)))
+
 asked_if : (b : Bool) (n count : ℕ) (x bytes : List ℕ) → if b then effect.None else effect.Asked n x ≡ effect.Asked count bytes → (b ≡ false) × (count ≡ n) × (bytes ≡ x)
 asked_if true n count x bytes e = absurd (cc)
 asked_if false n count x bytes e = (refl, cc, cc)
@@ -231,9 +251,10 @@ asks_dwords (Asked message) value count words bytes g e = absurd (cc)
 asks_dwords (Replies left) value count words bytes g e = absurd (cc)
 
 pub dwords_law : (calls : List DoorCall) (reg value count : ℕ) (bytes : List ℕ) → (register_written (after_calls new_registers calls) reg value).effect ≡ effect.Asked count bytes
-    → AsksDwords (doorbell_taken new_registers calls ++ value ∷ []) count bytes
+    → (reg ≡ 0) × AsksDwords (doorbell_taken new_registers calls ++ value ∷ []) count bytes
 dwords_law calls reg value count bytes e =
     let r : DoorRegisters = after_calls new_registers calls in
-    asks_dwords r.handshake value count (doorbell_taken new_registers calls) bytes
-    (gathers_run new_registers calls [] (gathers_idle Idle [] refl))
-    (register_asks r reg value count bytes e)
+    ( register_asks_at r reg value count bytes e,
+      asks_dwords r.handshake value count (doorbell_taken new_registers calls) bytes
+        (gathers_run new_registers calls [] (gathers_idle Idle [] refl))
+        (register_asks r reg value count bytes e) )

@@ -51,6 +51,9 @@ diagnostic_reset_unlocked r value e = grind (arith, nat_tests)
 reset_unlocked : (r : DoorRegisters) (reg value : ℕ) → (register_written r reg value).effect ≡ effect.AdapterReset → r.key_place ≡ 6
 reset_unlocked r reg value e = grind (arith, working_no_reset, diagnostic_reset_unlocked)
 
+reset_at : (r : DoorRegisters) (reg value : ℕ) → (register_written r reg value).effect ≡ effect.AdapterReset → reg ≡ 8
+reset_at r reg value e = grind (arith, working_no_reset, nat_tests)
+
 unlocking : (keys : List ℕ) → place_of 0 keys ≡ 6 → Entered keys → IsUnlocking keys
 unlocking keys six h =
     record {
@@ -59,6 +62,9 @@ unlocking keys six h =
       from_start = h.fresh;
     }
 
-pub reset_law : (calls : List DoorCall) (reg value : ℕ) → (register_written (after_calls new_registers calls) reg value).effect ≡ effect.AdapterReset → IsUnlocking (keys_written calls)
+pub reset_law : (calls : List DoorCall) (reg value : ℕ) → (register_written (after_calls new_registers calls) reg value).effect ≡ effect.AdapterReset
+    → (reg ≡ 8) × IsUnlocking (keys_written calls)
 reset_law calls reg value e =
-    unlocking (keys_written calls) (sym (run_place new_registers calls) ∙ reset_unlocked (after_calls new_registers calls) reg value e) (entered (keys_written calls))
+    let r : DoorRegisters = after_calls new_registers calls in
+    ( reset_at r reg value e,
+      unlocking (keys_written calls) (sym (run_place new_registers calls) ∙ reset_unlocked r reg value e) (entered (keys_written calls)) )

@@ -72,10 +72,7 @@ impl Exchange {
     pub fn is_idle(&self) -> bool
         ensures { result ≡ is_idle self.now }
     {
-        match self.progress {
-            Progress::Idle => true,
-            _ => false,
-        }
+        matches!(self.progress, Progress::Idle)
     }
 
     /// A dword is written to the Doorbell during a handshake.

@@ -143,6 +143,7 @@ fn handshakes_are_played_through(rt: HostRuntime) {
         }
     );
     laws::messages_are_their_dwords();
+    laws::ends_meet();
 }
 
 #[test]
