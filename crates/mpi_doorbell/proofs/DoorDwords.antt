@@ -223,19 +223,19 @@ working_asks_at : (r : DoorRegisters) (reg value count : ℕ) (bytes : List ℕ)
 working_asks_at r reg value count bytes =
     let P : Written → Type 0 = λ w. w.effect ≡ effect.Asked count bytes → reg ≡ 0 in
     cond_both (eqb reg 0) _ _ P
-      (λ at _. eqb-true _ _ at)
-      (λ _. cond_both (eqb reg 0x30) _ _ P (λ _ e. absurd (cc))
-        (λ _. cond_both (eqb reg 0x34) _ _ P (λ _ e. absurd (cc))
-          (λ _. cond_both (eqb reg 0x6C) _ _ P (λ _ e. absurd (cc)) (λ _ e. absurd (cc)))))
+    (λ at _. eqb-true _ _ at)
+    (λ _. cond_both (eqb reg 0x30) _ _ P (λ _ e. absurd (cc))
+    (λ _. cond_both (eqb reg 0x34) _ _ P (λ _ e. absurd (cc))
+    (λ _. cond_both (eqb reg 0x6C) _ _ P (λ _ e. absurd (cc)) (λ _ e. absurd (cc)))))
 
 register_asks_at : (r : DoorRegisters) (reg value count : ℕ) (bytes : List ℕ) → (register_written r reg value).effect ≡ effect.Asked count bytes → reg ≡ 0
 register_asks_at r reg value count bytes =
     let P : Written → Type 0 = λ w. w.effect ≡ effect.Asked count bytes → reg ≡ 0 in
     cond_both (eqb reg 4) _ _ P
-      (λ _ e. absurd (cc))
-      (λ _. cond_both (eqb reg 8) _ _ P
-        (λ _ e. absurd (diagnostic_asks_none r value count bytes e))
-        (λ _. cond_both (is_fault r.state) _ _ P (λ _ e. absurd (cc)) (λ _ e. working_asks_at r reg value count bytes e)))
+    (λ _ e. absurd (cc))
+    (λ _. cond_both (eqb reg 8) _ _ P
+    (λ _ e. absurd (diagnostic_asks_none r value count bytes e))
+    (λ _. cond_both (is_fault r.state) _ _ P (λ _ e. absurd (cc)) (λ _ e. working_asks_at r reg value count bytes e)))
 
 asked_if : (b : Bool) (n count : ℕ) (x bytes : List ℕ) → if b then effect.None else effect.Asked n x ≡ effect.Asked count bytes → (b ≡ false) × (count ≡ n) × (bytes ≡ x)
 asked_if true n count x bytes e = absurd (cc)
@@ -253,8 +253,9 @@ asks_dwords (Replies left) value count words bytes g e = absurd (cc)
 pub dwords_law : (calls : List DoorCall) (reg value count : ℕ) (bytes : List ℕ) → (register_written (after_calls new_registers calls) reg value).effect ≡ effect.Asked count bytes
     → (reg ≡ 0) × AsksDwords (doorbell_taken new_registers calls ++ value ∷ []) count bytes
 dwords_law calls reg value count bytes e =
-    let r : DoorRegisters = after_calls new_registers calls in
-    ( register_asks_at r reg value count bytes e,
+    let r : DoorRegisters = after_calls new_registers calls in (
+      register_asks_at r reg value count bytes e,
       asks_dwords r.handshake value count (doorbell_taken new_registers calls) bytes
-        (gathers_run new_registers calls [] (gathers_idle Idle [] refl))
-        (register_asks r reg value count bytes e) )
+          (gathers_run new_registers calls [] (gathers_idle Idle [] refl))
+          (register_asks r reg value count bytes e),
+    )

@@ -65,6 +65,7 @@ unlocking keys six h =
 pub reset_law : (calls : List DoorCall) (reg value : ℕ) → (register_written (after_calls new_registers calls) reg value).effect ≡ effect.AdapterReset
     → (reg ≡ 8) × IsUnlocking (keys_written calls)
 reset_law calls reg value e =
-    let r : DoorRegisters = after_calls new_registers calls in
-    ( reset_at r reg value e,
-      unlocking (keys_written calls) (sym (run_place new_registers calls) ∙ reset_unlocked r reg value e) (entered (keys_written calls)) )
+    let r : DoorRegisters = after_calls new_registers calls in (
+      reset_at r reg value e,
+      unlocking (keys_written calls) (sym (run_place new_registers calls) ∙ reset_unlocked r reg value e) (entered (keys_written calls)),
+    )

@@ -1,8 +1,9 @@
 -- A host that is done wrote its message and read its reply.
-use Rattle.std.proofs.Common.{◌≡◌, ℕ, suc, ◌/◌, ◌%◌, ◌<◌, ◌⊎◌, Bool, true, false, eqb, if◌then◌else◌, Option, Some, None, List, [], ◌∷◌, ◌++◌, length, drop, refl, ap, sym, ◌∙◌, subst, inl, inr, append_assoc, arith}
+use Rattle.std.proofs.Common.{◌≡◌, ℕ, suc, ◌-◌, ◌*◌, ◌/◌, ◌%◌, ◌<◌, ◌≤◌, ◌⊎◌, Bool, true, false, ◌&&◌, not, eqb, nat_le, if◌then◌else◌, Option, Some, None, List, [], ◌∷◌, ◌++◌, length, drop, replicate, slice_index, refl, ap, sym, ◌∙◌, subst, inl, inr, append_assoc, length-append, arith}
 use Rattle.std.specs.List.{All}
-use Rattle.std.proofs.lemmas.Bool.{cond_both, eqb-true, eqb-false, false≢true}
-use Rattle.std.proofs.lemmas.List.{append-nil, nil_from_length}
+use Rattle.std.proofs.lemmas.Bool.{and_parts, cases_eq, cond_both, eqb-true, eqb-false, false≢true, leb-true}
+use Rattle.std.proofs.lemmas.Bool.Decides.{nat_tests}
+use Rattle.std.proofs.lemmas.List.{append-nil, get_or_append_left, get_or_at, nil_from_length}
 use Rattle.byteorder.specs.Endian.{little_bytes, little_number}
 use Rattle.mpi_doorbell.specs.declared.registers.TheConstants.{DOORBELL_USED, SYS2IOC_DB_STATUS, IOC2SYS_DB_STATUS}
 use Rattle.mpi_doorbell.specs.declared.stage.Reading as looked
@@ -35,6 +36,10 @@ dword_of a b c d p q r s =
 word_bytes-push : (ws : List ℕ) (w : ℕ) → word_bytes (ws ++ w ∷ []) ≡ word_bytes ws ++ little_bytes 2 w
 word_bytes-push [] w = append-nil (little_bytes 2 w)
 word_bytes-push (x ∷ ws) w = ap (λ ys. little_bytes 2 x ++ ys) (word_bytes-push ws w) ∙ sym (append_assoc (little_bytes 2 x) (word_bytes ws) (little_bytes 2 w))
+
+length-word_bytes : (ws : List ℕ) → length (word_bytes ws) ≡ 2 * length ws
+length-word_bytes [] = refl
+length-word_bytes (w ∷ ws) = omega (arith, length-word_bytes ws)
 
 -- what is left of a message: bytes, in whole dwords
 pub record Dwords (u : List ℕ) : Type 0 where
@@ -80,6 +85,12 @@ record Sending (m writes reads unsent reply : List ℕ) : Type 0 where
   left : Dwords unsent
   no_reply : reply ≡ []
 
+-- a reply that may go on up to its MsgLength
+record Frames (reply : List ℕ) : Type 0 where
+  least : 5 ≤ slice_index reply 2
+  most : slice_index reply 2 ≤ 32
+  within : length reply ≤ 4 * slice_index reply 2
+
 record Reading (m writes reads unsent reply : List ℕ) : Type 0 where
   opening : ℕ
   dwords : List ℕ
@@ -91,6 +102,11 @@ record Reading (m writes reads unsent reply : List ℕ) : Type 0 where
   message : dword_bytes dwords ≡ m
   got : reply ≡ word_bytes words
   ended : (last ≡ []) ⊎ (is_whole reply ≡ true)
+  framed : 4 ≤ length reply → Frames reply
+
+record Ending (m writes reads unsent reply : List ℕ) : Type 0 where
+  reading_done : Reading m writes reads unsent reply
+  whole : is_whole reply ≡ true
 
 -- what a run of a handshake has done, by what the host looks for and by where it stands
 HeldFor : (m writes reads unsent reply : List ℕ) → looked.Reading → Type 0
@@ -113,7 +129,7 @@ HeldAt m w r u a Opens = Looked m w r u a
 HeldAt m w r u a (WritesKey place) = ⊥
 HeldAt m w r u a Locks = ⊥
 HeldAt m w r u a ResetsUnit = ⊥
-HeldAt m w r u a Finishes = Reading m w r u a
+HeldAt m w r u a Finishes = Ending m w r u a
 HeldAt m w r u a Ended = Unit {0}
 
 Held : (m writes reads : List ℕ) → HostDoor → Type 0
@@ -175,6 +191,7 @@ sent_held m w r u a none h =
       message = sym (append-nil (dword_bytes h.dwords)) ∙ ap (λ x. dword_bytes h.dwords ++ x) (sym none) ∙ h.message;
       got = h.no_reply;
       ended = inl refl;
+      framed = λ four. absurd (omega (arith, four, ap length h.no_reply));
     }
 
 dword_held : (m w r u a : List ℕ) → FirstDword u → Sending m w r u a → Sending m (w ++ little_number 4 u ∷ []) r (drop 4 u) a
@@ -224,15 +241,55 @@ later_held m w r u a v whole h =
       message = h.message;
       got = h.got;
       ended = inr whole;
+      framed = h.framed;
     }
 
 none_last : (last a : List ℕ) → is_whole a ≡ false → (last ≡ []) ⊎ (is_whole a ≡ true) → last ≡ []
 none_last last a part (inl e) = e
 none_last last a part (inr whole) = absurd (false≢true (sym part ∙ whole))
 
+part_gives : (n g : ℕ) → (nat_le 4 n && nat_le (4 * g) n) ≡ false → 4 ≤ n → n < 4 * g
+part_gives n g e four = grind (arith, nat_tests)
+
+whole_gives : (n g : ℕ) → (nat_le 4 n && nat_le (4 * g) n) ≡ true → (4 ≤ n) × (4 * g ≤ n)
+whole_gives n g e = let parts = and_parts (nat_le 4 n) (nat_le (4 * g) n) e in (leb-true 4 n parts.0, leb-true (4 * g) n parts.1)
+
+good_gives : (n m : ℕ) → (eqb n 2 && not (nat_le 5 m && nat_le m 32)) ≡ false → n ≡ 2 → (5 ≤ m) × (m ≤ 32)
+good_gives n m e two = grind (arith, nat_tests)
+
+-- word 1 has MsgLength
+frames_first : (a : List ℕ) (v : ℕ) → length a ≡ 2 → is_bad_length a v ≡ false → Frames (a ++ little_bytes 2 v)
+frames_first a v two good =
+    let third : slice_index (a ++ little_bytes 2 v) 2 ≡ v % 256 = get_or_at a (v % 256) (v / 256 % 256 ∷ []) 0 2 two in
+    let fits = good_gives (length a) (v % 256) good two in
+    record {
+      least = omega (arith, third, fits.0);
+      most = omega (arith, third, fits.1);
+      within = omega (arith, third, fits.0, length-append a (little_bytes 2 v), two);
+    }
+
+-- a later word is within it
+frames_later : (a : List ℕ) (v k : ℕ) → length a ≡ 2 * k → 4 ≤ length a → is_whole a ≡ false → Frames a → Frames (a ++ little_bytes 2 v)
+frames_later a v k even four part f =
+    let third : slice_index (a ++ little_bytes 2 v) 2 ≡ slice_index a 2 = get_or_append_left a (little_bytes 2 v) 0 2 (omega arith) in
+    let below = part_gives (length a) (slice_index a 2) part four in
+    record {
+      least = omega (arith, third, f.least);
+      most = omega (arith, third, f.most);
+      within = omega (arith, third, below, length-append a (little_bytes 2 v), even);
+    }
+
+frames_more : (a : List ℕ) (v k : ℕ) → length a ≡ 2 * k → is_whole a ≡ false → is_bad_length a v ≡ false → (4 ≤ length a → Frames a)
+    → 4 ≤ length (a ++ little_bytes 2 v) → Frames (a ++ little_bytes 2 v)
+frames_more a v k even part good f four =
+    elim (cases_eq (length a) 2) [
+      | inl two ↦ frames_first a v two good
+      | inr other ↦ let more : 4 ≤ length a = omega (arith, even, four, other, length-append a (little_bytes 2 v)) in frames_later a v k even more part (f more)
+    ]
+
 -- a read of the next word
-word_held : (m w r u a : List ℕ) (v : ℕ) → is_whole a ≡ false → Reading m w r u a → Reading m w (r ++ v ∷ []) u (a ++ little_bytes 2 v)
-word_held m w r u a v part h =
+word_held : (m w r u a : List ℕ) (v : ℕ) → is_whole a ≡ false → is_bad_length a v ≡ false → Reading m w r u a → Reading m w (r ++ v ∷ []) u (a ++ little_bytes 2 v)
+word_held m w r u a v part good h =
     let none = none_last h.last a part h.ended in
     record {
       opening = h.opening;
@@ -247,6 +304,7 @@ word_held m w r u a v part h =
       message = h.message;
       got = ap (λ x. x ++ little_bytes 2 v) h.got ∙ sym (word_bytes-push h.words v);
       ended = inl refl;
+      framed = frames_more a v (length h.words) (ap length h.got ∙ length-word_bytes h.words) part good h.framed;
     }
 
 hears_word_held : (m w r : List ℕ) (d : HostDoor) (v : ℕ) → Reading m w r d.unsent d.reply → After m w (r ++ v ∷ []) (hears_word d v)
@@ -255,10 +313,10 @@ hears_word_held m w r d v h =
     cond_both (is_whole d.reply) _ _ (After m w (r ++ v ∷ []))
     (λ whole. cond_both (has v DOORBELL_USED) _ _ (After m w (r ++ v ∷ []))
     (λ _. still m w _ d.unsent d.reply (Awaits reading.Word) (later_held m w r d.unsent d.reply v whole h))
-    (λ _. still m w _ d.unsent d.reply Finishes (later_held m w r d.unsent d.reply v whole h)))
+    (λ _. still m w _ d.unsent d.reply Finishes (record { reading_done = later_held m w r d.unsent d.reply v whole h; whole = whole })))
     (λ part. cond_both (is_bad_length d.reply v) _ _ (After m w (r ++ v ∷ []))
     (λ _. tt)
-    (λ _. still m w _ d.unsent _ (Reads reading.News) (word_held m w r d.unsent d.reply v part h)))
+    (λ good. still m w _ d.unsent _ (Reads reading.News) (word_held m w r d.unsent d.reply v part good h)))
 
 quiet : (m w r : List ℕ) (s : Stepped) → After m w r s → After m w (r ++ []) s
 quiet m w r s h = subst (λ (rs : List ℕ). After m w rs s) (sym (append-nil r)) h
@@ -363,10 +421,14 @@ reading_goes_on m w r u a d (reading.State kind) v h = absurd h
 reading_goes_on m w r u a d reading.UnitReset v h = absurd h
 reading_goes_on m w r u a d reading.Doorbell v h = absurd h
 
-handed_over : (m w r u a : List ℕ) (count : ℕ) (bytes : List ℕ) → Reading m w r u a → Done (length a) (padded a) ≡ Done count bytes → HandsOver m w r count bytes
-handed_over m w r u a count bytes h e =
+handed_over : (m w r u a : List ℕ) (count : ℕ) (bytes : List ℕ) → Ending m w r u a → Done (length a) (padded a) ≡ Done count bytes → HandsOver m w r count bytes
+handed_over m w r u a count bytes ending e =
+    let h = ending.reading_done in
     let n : count ≡ length a = cc in
     let b : bytes ≡ padded a = cc in
+    let all = whole_gives (length a) (slice_index a 2) ending.whole in
+    let f : Frames a = h.framed all.0 in
+    let third : slice_index bytes 2 ≡ slice_index a 2 = ap (λ x. slice_index x 2) b ∙ get_or_append_left a (replicate (128 - length a) 0) 0 2 (omega (arith, all.0)) in
     record {
       opening = h.opening;
       dwords = h.dwords;
@@ -378,6 +440,9 @@ handed_over m w r u a count bytes h e =
       sent = h.message;
       size = n ∙ ap length h.got;
       got = b ∙ ap padded h.got;
+      msg_length = omega (arith, n, third, all.1, f.within);
+      least = omega (arith, n, all.1, f.least);
+      most = omega (arith, n, f.within, f.most);
     }
 
 done_acts : (m w r u a : List ℕ) (d : HostDoor) (s : Stage) (count : ℕ) (bytes : List ℕ) → d.reply ≡ a → HeldAt m w r u a s → Expects s None

@@ -1,5 +1,5 @@
 -- A host's handshake with an idle adapter asks its message, and is done with the reply.
-use Rattle.std.proofs.Common.{◌≡◌, ℕ, zero, suc, ◌+◌, ◌-◌, ◌*◌, ◌/◌, ◌%◌, ◌^◌, ◌<◌, ◌≤◌, ◌⊎◌, Bool, true, false, ◌&&◌, not, eqb, nat_lt, nat_le, if◌then◌else◌, Option, Some, None, List, [], ◌∷◌, ◌++◌, length, drop, get_or, slice_index, bit_and, unwrap_or, refl, ap, sym, ◌∙◌, subst, inl, inr, append_assoc, length-append, arith}
+use Rattle.std.proofs.Common.{◌≡◌, ℕ, zero, suc, ◌-◌, ◌*◌, ◌/◌, ◌%◌, ◌^◌, ◌<◌, ◌≤◌, Bool, true, false, ◌&&◌, not, eqb, nat_lt, nat_le, if◌then◌else◌, Option, Some, None, List, [], ◌∷◌, ◌++◌, length, drop, get_or, slice_index, bit_and, unwrap_or, refl, ap, sym, ◌∙◌, subst, append_assoc, length-append, arith}
 use Rattle.std.specs.List.{All}
 use Rattle.std.proofs.lemmas.Bool.{and_from, false≢true, le-leb, lt-ltb, ne_eqb}
 use Rattle.std.proofs.lemmas.Bool.Decides.{nat_tests}
@@ -12,18 +12,16 @@ use Rattle.mpi_doorbell.specs.declared.effect.Effect.TheVariants as effect
 use Rattle.mpi_doorbell.specs.declared.registers.TheConstants.{DOORBELL_USED}
 use Rattle.mpi_doorbell.specs.declared.stage.Reading.TheVariants as reading
 use Rattle.mpi_doorbell.specs.declared.stage.Stage.{Stage}
-use Rattle.mpi_doorbell.specs.declared.stage.Stage.TheVariants.{Reads, Awaits, Opens, Finishes, Ended}
+use Rattle.mpi_doorbell.specs.declared.stage.Stage.TheVariants.{Reads, Awaits, Opens, Finishes}
 use Rattle.mpi_doorbell.specs.declared.state.IocState.{IocState}
 use Rattle.mpi_doorbell.specs.declared.state.IocState.TheVariants.{Reset, Ready, Operational, Fault}
-use Rattle.mpi_doorbell.specs.declared.step.DoorStep.{DoorStep}
-use Rattle.mpi_doorbell.specs.declared.step.DoorStep.TheVariants.{Write, Read, Done, Refused}
 use Rattle.mpi_doorbell.specs.Bytes.{IsMessage, IsReply, has, padded}
-use Rattle.mpi_doorbell.specs.DoorRegisters.{DoorRegisters, Written, answered, bits_if, data_word, doorbell_value, doorbell_written, function_written, is_fault, quietly, register_written, status_written}
+use Rattle.mpi_doorbell.specs.DoorRegisters.{DoorRegisters, Written, answered, bits_if, doorbell_value, doorbell_written, function_written, is_fault, quietly, register_written, status_written}
 use Rattle.mpi_doorbell.specs.Handshake.{Handshake, Idle, Collects, Asked, Replies, asked_by, asks, dword_taken, next_word}
 use Rattle.mpi_doorbell.specs.HostDoor.{HostDoor, Stepped, reads, refuses, writes}
 use Rattle.mpi_doorbell.specs.HostHandshake.{hears_end, hears_used, hears_word, is_bad_length, is_whole, opening_dword, opens, sends, takes_word, with_word}
 use Rattle.mpi_doorbell.specs.HostSteps.{next_step}
-use Rattle.mpi_doorbell.specs.Meeting.{AsksAndEnds, IsDoneWith, LeadsIn, LeadsTo, Talk, effect_on, round, step_of, step_taken, talk, value_given, with_answer}
+use Rattle.mpi_doorbell.specs.Meeting.{AsksAndEnds, IsDoneWith, LeadsIn, LeadsTo, Talk, effect_on, round, step_taken, talk, value_given, with_answer}
 use Rattle.mpi_doorbell.proofs.HostRuns.{Dwords, FirstDword, first_dword}
 
 -- one round: the host's step, and what the adapter makes of it
@@ -32,11 +30,14 @@ lead_by : (P : Talk → Type 0) (t : Talk) (s : Stepped) (w : Written) → next_
 lead_by P t s w e f q g =
     let r : DoorRegisters = t.registers in
     let by_step : round t ≡ record { host = s.door; value = value_given s.step r; registers = (step_taken s.step r).registers } =
-      ap (λ (k : Stepped). let x : Talk = record { host = k.door; value = value_given k.step r; registers = (step_taken k.step r).registers } in x) e in
-    let by_write = ap (λ (y : Written). let x : Talk = record { host = s.door; value = value_given s.step r; registers = y.registers } in x) f in
-    ( suc g.0,
-      ( ap (λ (k : Stepped). (step_taken k.step r).effect) e ∙ ap (λ (y : Written). y.effect) f ∙ q,
-        subst (LeadsIn P g.0) (sym (by_step ∙ by_write)) g.1 ) )
+    ap (λ (k : Stepped). let x : Talk = record { host = k.door; value = value_given k.step r; registers = (step_taken k.step r).registers } in x) e in
+    let by_write = ap (λ (y : Written). let x : Talk = record { host = s.door; value = value_given s.step r; registers = y.registers } in x) f in (
+      suc g.0,
+      (
+        ap (λ (k : Stepped). (step_taken k.step r).effect) e ∙ ap (λ (y : Written). y.effect) f ∙ q,
+        subst (LeadsIn P g.0) (sym (by_step ∙ by_write)) g.1,
+      ),
+    )
 
 -- a talk by its parts
 abbrev host_at : Stage → List ℕ → List ℕ → HostDoor
@@ -109,7 +110,7 @@ news_go P r who acc h g =
     let d : HostDoor = host_at (Reads reading.News) [] acc in
     let e : HostDoor = host_at (Awaits reading.News) [] acc in
     lead_by P _ (reads d reading.News) (quietly (regs r who h true)) refl refl refl
-      (lead_by P _ (reads e reading.Word) (quietly (regs r who h true)) refl refl refl g)
+    (lead_by P _ (reads e reading.Word) (quietly (regs r who h true)) refl refl refl g)
 
 word_go : (P : Talk → Type 0) (r : DoorRegisters) (who x y : ℕ) (acc rest : List ℕ) → is_fault r.state ≡ false → who < 8 → x < 256 → y < 256
     → is_whole acc ≡ false → is_bad_length acc (doorbell_value (regs r who (Replies (x ∷ y ∷ rest)) true)) ≡ false
@@ -121,10 +122,10 @@ word_go P r who x y acc rest works small p q part good g =
     let s : Stepped = writes (with_word d v) (Reads reading.News) 0x30 0 in
     let e : hears_word d v ≡ s = ap (λ b. let k : Stepped = if b then hears_end d v else takes_word d v in k) part ∙ ap (λ b. let k : Stepped = if b then refuses d 6 v else s in k) good in
     let w : LeadsTo P (word_talk r who (acc ++ little_bytes 2 v) (next_word h)) =
-      subst (λ (k : Handshake). LeadsTo P (word_talk r who (acc ++ little_bytes 2 v) k)) (sym (next_of x y rest))
-        (subst (λ (bs : List ℕ). LeadsTo P (word_talk r who (acc ++ bs) (h_of rest))) (sym (word_of r.state who x y rest r true works small p q)) g) in
+    subst (λ (k : Handshake). LeadsTo P (word_talk r who (acc ++ little_bytes 2 v) k)) (sym (next_of x y rest))
+    (subst (λ (bs : List ℕ). LeadsTo P (word_talk r who (acc ++ bs) (h_of rest))) (sym (word_of r.state who x y rest r true works small p q)) g) in
     lead_by P _ s (quietly (status_written (regs r who h true))) e (works_status (regs r who h true) 0 works) refl
-      (news_go P r who (acc ++ little_bytes 2 v) (next_word h) w)
+    (news_go P r who (acc ++ little_bytes 2 v) (next_word h) w)
 
 -- a reply of MsgLength dwords
 record Framed (reply : List ℕ) : Type 0 where
@@ -146,8 +147,8 @@ part_of : (reply acc : List ℕ) (x : ℕ) (xs : List ℕ) → Framed reply → 
 part_of reply acc x xs f e =
     let n : length acc < length reply = omega (arith, length-append acc (x ∷ xs), ap length e) in
     part_if (length acc) (slice_index acc 2)
-      (λ four. let two : slice_index reply 2 ≡ slice_index acc 2 = ap (λ l. get_or l 2 0) (sym e) ∙ get_or_append_left acc (x ∷ xs) 0 2 (omega arith) in
-        omega (arith, f.size, two))
+    (λ four. let two : slice_index reply 2 ≡ slice_index acc 2 = ap (λ l. get_or l 2 0) (sym e) ∙ get_or_append_left acc (x ∷ xs) 0 2 (omega arith) in
+    omega (arith, f.size, two))
 
 good_of : (reply acc : List ℕ) (x m : ℕ) (xs : List ℕ) → Framed reply → acc ++ x ∷ xs ≡ reply → m ≡ x
     → (eqb (length acc) 2 && not (nat_le 5 m && nat_le m 32)) ≡ false
@@ -170,7 +171,7 @@ end_go r who reply works small f =
     let whole : is_whole reply ≡ true = whole_if (length reply) (slice_index reply 2) (omega (arith, f.least)) (omega (arith, f.size)) in
     let e : hears_word d v ≡ s = ap (λ b. let k : Stepped = if b then hears_end d v else takes_word d v in k) whole ∙ ap (λ b. let k : Stepped = if b then reads d reading.Word else s in k) (idle_unused r.state who r true works small) in
     lead_by (IsDoneWith reply) _ s (quietly (status_written (regs r who Idle true))) e (works_status (regs r who Idle true) 0 works) refl
-      (zero, refl)
+    (zero, refl)
 
 words_go : (r : DoorRegisters) (who : ℕ) (reply acc left : List ℕ) → is_fault r.state ≡ false → who < 8 → Framed reply → acc ++ left ≡ reply → length left % 2 ≡ 0
     → LeadsTo (IsDoneWith reply) (word_talk r who acc (h_of left))
@@ -183,9 +184,9 @@ words_go r who reply acc (x ∷ y ∷ rest) works small f e even =
     let p : x < 256 = byte_of reply acc x (y ∷ rest) f e in
     let q : y < 256 = byte_of reply (acc ++ x ∷ []) y rest f (append_assoc acc (x ∷ []) (y ∷ rest) ∙ e) in
     word_go (IsDoneWith reply) r who x y acc rest works small p q
-      (part_of reply acc x (y ∷ rest) f e)
-      (good_of reply acc x _ (y ∷ rest) f e (low_of r.state who x y rest r true works small p q))
-      (words_go r who reply (acc ++ x ∷ y ∷ []) rest works small f on (omega (arith, even)))
+    (part_of reply acc x (y ∷ rest) f e)
+    (good_of reply acc x _ (y ∷ rest) f e (low_of r.state who x y rest r true works small p q))
+    (words_go r who reply (acc ++ x ∷ y ∷ []) rest works small f on (omega (arith, even)))
 
 -- ---- the answer
 
@@ -196,10 +197,10 @@ reply_go r who reply works small f even =
     let P : Talk → Type 0 = IsDoneWith reply in
     let now : DoorRegisters = regs r who (Replies reply) true in
     let words : LeadsTo P (word_talk r who [] (Replies reply)) =
-      subst (λ (h : Handshake). LeadsTo P (word_talk r who [] h)) (h_of_some reply (omega (arith, f.least))) (words_go r who reply [] reply works small f refl even) in
+    subst (λ (h : Handshake). LeadsTo P (word_talk r who [] h)) (h_of_some reply (omega (arith, f.least))) (words_go r who reply [] reply works small f refl even) in
     lead_by P _ (reads (host_at (Reads reading.Taken) [] []) reading.Taken) (quietly now) refl refl refl
-      (lead_by P _ (reads (host_at (Awaits reading.Taken) [] []) reading.News) (quietly now) refl refl refl
-        (lead_by P _ (reads (host_at (Awaits reading.News) [] []) reading.Word) (quietly now) refl refl refl words))
+    (lead_by P _ (reads (host_at (Awaits reading.Taken) [] []) reading.News) (quietly now) refl refl refl
+    (lead_by P _ (reads (host_at (Awaits reading.News) [] []) reading.Word) (quietly now) refl refl refl words))
 
 who_if : (b c : Bool) (who x : ℕ) → who < 8 → x < 8 → (if b then unwrap_or (if c then Some x else None) who else who) < 8
 who_if true true who x p q = q
@@ -248,10 +249,10 @@ ask_now r who message gone u reply works small f even h =
     let by_step : effect_on t ≡ (step_taken s.step R).effect = ap (λ (k : Stepped). (step_taken k.step R).effect) e in
     let asks_it : (doorbell_written R n).effect ≡ effect.Asked (length message) (padded message) = ap (λ (m : List ℕ). effect.Asked (length m) (padded m)) is in
     let after : round t ≡ talk_at (host_at (Reads reading.Taken) [] []) None (regs r who (Asked message) false) =
-      ap (λ (k : Stepped). let x : Talk = record { host = k.door; value = value_given k.step R; registers = (step_taken k.step R).registers } in x) e
-      ∙ ap (λ (y : Written). let x : Talk = record { host = s.door; value = None; registers = y.registers } in x) w
-      ∙ ap (λ (m : List ℕ). talk_at (host_at (Reads reading.Taken) (drop 4 u) []) None (regs r who (Asked m) false)) is
-      ∙ ap (λ (x : List ℕ). talk_at (host_at (Reads reading.Taken) x []) None (regs r who (Asked message) false)) (drop_all 4 u (omega (arith, h.count))) in
+    ap (λ (k : Stepped). let x : Talk = record { host = k.door; value = value_given k.step R; registers = (step_taken k.step R).registers } in x) e
+    ∙ ap (λ (y : Written). let x : Talk = record { host = s.door; value = None; registers = y.registers } in x) w
+    ∙ ap (λ (m : List ℕ). talk_at (host_at (Reads reading.Taken) (drop 4 u) []) None (regs r who (Asked m) false)) is
+    ∙ ap (λ (x : List ℕ). talk_at (host_at (Reads reading.Taken) x []) None (regs r who (Asked message) false)) (drop_all 4 u (omega (arith, h.count))) in
     record {
       asked = by_step ∙ ap (λ (y : Written). y.effect) w ∙ asks_it;
       ends = subst (λ (x : Talk). LeadsTo (IsDoneWith reply) (with_answer reply x)) (sym after) (answer_go r who message reply works small f even);
@@ -268,12 +269,12 @@ send_one P r who j gone u works n g =
     let more : nat_lt 1 (suc (suc j)) ≡ true = lt-ltb 1 (suc (suc j)) (omega arith) in
     let one_less : suc j ≡ suc (suc j) - 1 = omega arith in
     let after : dword_taken (Collects (suc (suc j)) gone) v ≡ Collects (suc j) (gone ++ little_bytes 4 v) =
-      ap (λ b. let h : Handshake = if b then Collects (suc (suc j) - 1) (gone ++ little_bytes 4 v) else Asked (gone ++ little_bytes 4 v) in h) more
-      ∙ ap (λ k. Collects k (gone ++ little_bytes 4 v)) (sym one_less) in
+    ap (λ b. let h : Handshake = if b then Collects (suc (suc j) - 1) (gone ++ little_bytes 4 v) else Asked (gone ++ little_bytes 4 v) in h) more
+    ∙ ap (λ k. Collects k (gone ++ little_bytes 4 v)) (sym one_less) in
     let quiet_now : asked_by (Collects (suc (suc j)) gone) v ≡ effect.None =
-      ap (λ b. let e : Effect = if b then effect.None else asks (gone ++ little_bytes 4 v) in e) more in
+    ap (λ b. let e : Effect = if b then effect.None else asks (gone ++ little_bytes 4 v) in e) more in
     lead_by P _ s (doorbell_written R v) (sends_some u (suc (suc j)) n (omega arith)) (works_doorbell R v works) quiet_now
-      (subst (λ (h : Handshake). LeadsTo P (talk_at (host_at (Reads reading.Taken) (drop 4 u) []) None (regs r who h false))) (sym after) g)
+    (subst (λ (h : Handshake). LeadsTo P (talk_at (host_at (Reads reading.Taken) (drop 4 u) []) None (regs r who h false))) (sym after) g)
 
 -- the host looks whether its last dword was taken
 taken_go : (P : Talk → Type 0) (r : DoorRegisters) (who : ℕ) (u : List ℕ) (h : Handshake)
@@ -297,8 +298,8 @@ dwords_go r who (suc zero) message gone u reply works small f even more h =
     taken_go (AsksAndEnds message reply) r who u (Collects 1 gone) (zero, ask_now r who message gone u reply works small f even h)
 dwords_go r who (suc (suc j)) message gone u reply works small f even more h =
     taken_go (AsksAndEnds message reply) r who u (Collects (suc (suc j)) gone)
-      (send_one (AsksAndEnds message reply) r who j gone u works h.count
-        (dwords_go r who (suc j) message (gone ++ little_bytes 4 (little_number 4 u)) (drop 4 u) reply works small f even (omega arith) (sends_rest message gone u j h)))
+    (send_one (AsksAndEnds message reply) r who j gone u works h.count
+    (dwords_go r who (suc j) message (gone ++ little_bytes 4 (little_number 4 u)) (drop 4 u) reply works small f even (omega arith) (sends_rest message gone u j h)))
 
 -- ---- the opening
 
@@ -322,12 +323,12 @@ open_go r who b d v message reply works small f even good some fits e =
     let more : 0 < n = omega (arith, count) in
     let opened : DoorRegisters = regs r who (Collects n []) true in
     let w : step_taken (opens (host_at Opens message [])).step (regs r who Idle b) ≡ quietly opened =
-      works_doorbell (regs r who Idle b) value works
-      ∙ opened_state r who n b value (omega arith) (omega arith) more (omega (arith, count)) in
+    works_doorbell (regs r who Idle b) value works
+    ∙ opened_state r who n b value (omega arith) (omega arith) more (omega (arith, count)) in
     lead_by P _ (opens (host_at Opens message [])) (quietly opened) e w refl
-      (lead_by P _ (reads (host_at (Reads reading.Opened) message []) reading.Opened) (quietly opened) refl refl refl
-        (lead_by P _ (writes (host_at (Awaits reading.Opened) message []) (Reads reading.Taken) 0x30 0) (quietly (status_written opened)) refl (works_status opened 0 works) refl
-          (dwords_go r who n message [] message reply works small f even more (record { whole = refl; left = good; count = count }))))
+    (lead_by P _ (reads (host_at (Reads reading.Opened) message []) reading.Opened) (quietly opened) refl refl refl
+    (lead_by P _ (writes (host_at (Awaits reading.Opened) message []) (Reads reading.Taken) 0x30 0) (quietly (status_written opened)) refl (works_status opened 0 works) refl
+    (dwords_go r who n message [] message reply works small f even more (record { whole = refl; left = good; count = count }))))
 
 -- an interrupt that is left over is cleared
 left_over_go : (r : DoorRegisters) (who : ℕ) (b : Bool) (message reply : List ℕ) → is_fault r.state ≡ false → who < 8 → Framed reply → length reply % 2 ≡ 0
@@ -335,7 +336,7 @@ left_over_go : (r : DoorRegisters) (who : ℕ) (b : Bool) (message reply : List 
     → LeadsTo (AsksAndEnds message reply) (talk_at (host_at (Awaits reading.LeftOver) message []) (Some (bits_if b 1)) (regs r who Idle b))
 left_over_go r who true message reply works small f even good some fits =
     lead_by (AsksAndEnds message reply) _ (writes (host_at (Awaits reading.LeftOver) message []) Opens 0x30 0) (quietly (status_written (regs r who Idle true))) refl (works_status (regs r who Idle true) 0 works) refl
-      (open_go r who false (host_at Opens message []) None message reply works small f even good some fits refl)
+    (open_go r who false (host_at Opens message []) None message reply works small f even good some fits refl)
 left_over_go r who false message reply works small f even good some fits =
     open_go r who false (host_at (Awaits reading.LeftOver) message []) (Some 0) message reply works small f even good some fits refl
 
@@ -345,10 +346,10 @@ begin_go r who b message reply works small f even good some fits =
     let P : Talk → Type 0 = AsksAndEnds message reply in
     let R : DoorRegisters = regs r who Idle b in
     let free : hears_used (host_at (Awaits reading.Used) message []) (doorbell_value R) ≡ reads (host_at (Awaits reading.Used) message []) reading.LeftOver =
-      ap (λ c. let s : Stepped = if c then refuses (host_at (Awaits reading.Used) message []) 1 (doorbell_value R) else reads (host_at (Awaits reading.Used) message []) reading.LeftOver in s) (idle_unused r.state who r b works small) in
+    ap (λ c. let s : Stepped = if c then refuses (host_at (Awaits reading.Used) message []) 1 (doorbell_value R) else reads (host_at (Awaits reading.Used) message []) reading.LeftOver in s) (idle_unused r.state who r b works small) in
     lead_by P _ (reads (host_at (Reads reading.Used) message []) reading.Used) (quietly R) refl refl refl
-      (lead_by P _ (reads (host_at (Awaits reading.Used) message []) reading.LeftOver) (quietly R) free refl refl
-        (left_over_go r who b message reply works small f even good some fits))
+    (lead_by P _ (reads (host_at (Awaits reading.Used) message []) reading.LeftOver) (quietly R) free refl refl
+    (left_over_go r who b message reply works small f even good some fits))
 
 pub ends_meet : (message reply : List ℕ) (r : DoorRegisters) → IsMessage message → All (λ b. b < 256) message → IsReply reply → All (λ b. b < 256) reply
     → 4 * slice_index reply 2 ≡ length reply → r.handshake ≡ Idle → is_fault r.state ≡ false → r.who_init < 8
@@ -356,4 +357,4 @@ pub ends_meet : (message reply : List ℕ) (r : DoorRegisters) → IsMessage mes
 ends_meet message reply r m mb p pb size idle works small =
     let f : Framed reply = record { bytes = pb; size = size; least = p.least; most = p.most } in
     subst (λ (h : Handshake). LeadsTo (AsksAndEnds message reply) (talk message (record r { handshake = h }))) (sym idle)
-      (begin_go r r.who_init r.ioc2sys message reply works small f (omega (arith, p.whole)) (record { bytes = mb; whole = m.whole }) (omega (arith, m.least)) m.most)
+    (begin_go r r.who_init r.ioc2sys message reply works small f (omega (arith, p.whole)) (record { bytes = mb; whole = m.whole }) (omega (arith, m.least)) m.most)

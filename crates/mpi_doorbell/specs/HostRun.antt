@@ -1,5 +1,5 @@
 -- Runs of the host's side: any values, one at each step that waits for one.
-use Rattle.std.specs.Prelude.{◌≡◌, ℕ, ◌==◌, if◌then◌else◌, List, [], ◌∷◌, ◌++◌, length, Option, Some, None}
+use Rattle.std.specs.Prelude.{◌≡◌, ℕ, ◌*◌, ◌≤◌, ◌==◌, if◌then◌else◌, List, [], ◌∷◌, ◌++◌, length, slice_index, Option, Some, None}
 use Rattle.std.specs.List.{flat_map}
 use Rattle.byteorder.specs.Endian.{little_bytes}
 use Rattle.mpi_doorbell.specs.declared.registers.TheConstants.{DOORBELL}
@@ -60,3 +60,7 @@ pub record HandsOver (message writes reads : List ℕ) (count : ℕ) (bytes : Li
   pub sent : dword_bytes dwords ≡ message
   pub size : count ≡ length (word_bytes words)
   pub got : bytes ≡ padded (word_bytes words)
+  -- the reply's byte 02, MsgLength, counts its dwords
+  pub msg_length : count ≡ 4 * slice_index bytes 2
+  pub least : 20 ≤ count
+  pub most : count ≤ 128

@@ -1,6 +1,6 @@
 -- The host plays against the adapter: what it reads is what the adapter's registers read, and what it
 -- writes is written to them.
-use Rattle.std.specs.Prelude.{◌≡◌, ℕ, zero, suc, List, [], length, Option, Some, None}
+use Rattle.std.specs.Prelude.{◌≡◌, ℕ, zero, suc, List, length, Option, Some, None}
 use Rattle.mpi_doorbell.specs.declared.effect.Effect.{Effect}
 use Rattle.mpi_doorbell.specs.declared.effect.Effect.TheVariants as effect
 use Rattle.mpi_doorbell.specs.declared.step.DoorStep.{DoorStep}

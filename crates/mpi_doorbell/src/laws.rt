@@ -27,7 +27,7 @@ pub fn reset_needs_the_keys()
 pub fn messages_are_their_dwords()
     ensures { (calls : List DoorCall) (reg value count : ℕ) (bytes : List ℕ) →
         (register_written (after_calls new_registers calls) reg value).effect
-            ≡ Effect.Asked count bytes →
+        ≡ Effect.Asked count bytes →
         (reg ≡ DOORBELL) × AsksDwords (doorbell_taken new_registers calls ++ value ∷ []) count bytes }
 {}
 
@@ -39,7 +39,7 @@ pub fn handshakes_hand_over()
         All (λ b. b < 256) message → length message % 4 ≡ 0 →
         Expects (after_steps (handshake_of_message message) values).stage value →
         (next_step (after_steps (handshake_of_message message) values) value).step
-            ≡ DoorStep.Done count bytes →
+        ≡ DoorStep.Done count bytes →
         HandsOver message (doorbell_writes (handshake_of_message message) values)
         (doorbell_reads (handshake_of_message message) values) count bytes }
 {}
