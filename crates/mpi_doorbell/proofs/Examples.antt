@@ -1,9 +1,13 @@
 -- Worked cases that compute.
-use Rattle.std.proofs.Common.{◌≡◌, ℕ, List, [], ◌∷◌, refl}
+use Rattle.std.proofs.Common.{◌≡◌, ℕ, Some, None, List, [], ◌∷◌, replicate, refl}
 use Rattle.mpi_doorbell.specs.declared.effect.Effect.TheVariants as effect
 use Rattle.mpi_doorbell.specs.declared.state.IocState.TheVariants.{Operational}
 use Rattle.mpi_doorbell.specs.declared.registers.TheConstants.{DOORBELL, WRITE_SEQUENCE, HOST_DIAGNOSTIC, HOST_INTERRUPT_STATUS}
 use Rattle.mpi_doorbell.specs.DoorRegisters.{DoorRegisters, answered, new_registers, register_value, register_written}
+use Rattle.mpi_doorbell.specs.declared.step.DoorStep.{DoorStep}
+use Rattle.mpi_doorbell.specs.declared.step.DoorStep.TheVariants.{Write}
+use Rattle.mpi_doorbell.specs.HostRun.{after_steps}
+use Rattle.mpi_doorbell.specs.HostSteps.{handshake_of_message, next_step, unit_reset}
 
 -- the registers after these values were written to one of them
 abbrev after_each : DoorRegisters → ℕ → List ℕ → DoorRegisters
@@ -40,3 +44,16 @@ answered_init = answered asked_init (4 ∷ 0 ∷ 5 ∷ 2 ∷ 0 ∷ 0 ∷ 0 ∷ 0
 
 initialised : register_value (record (after_each answered_init HOST_INTERRUPT_STATUS (0 ∷ 0 ∷ 0 ∷ 0 ∷ 0 ∷ 0 ∷ 0 ∷ 0 ∷ 0 ∷ 0 ∷ [])) { state = Operational }) DOORBELL ≡ 0x24000000
 initialised = refl
+
+-- the host's words: IOC Facts has 12 bytes, IOC Init 72
+abbrev first_word : ℕ → DoorStep
+first_word count = (next_step (after_steps (handshake_of_message (replicate count 0)) (None ∷ Some 0x10000000 ∷ [])) (Some 0)).step
+
+facts_opening : first_word 12 ≡ Write 0 0x42030000
+facts_opening = refl
+
+init_opening : first_word 72 ≡ Write 0 0x42120000
+init_opening = refl
+
+unit_word : (next_step unit_reset None).step ≡ Write 0 0x40000000
+unit_word = refl
