@@ -1,0 +1,15 @@
+pub mod Bytes
+pub mod Sizes
+pub mod State
+pub mod Handshake
+pub mod Exchange
+pub mod Keys
+pub mod DoorRegisters
+pub mod HostDoor
+pub mod HostHandshake
+pub mod HostReset
+pub mod HostSteps
+pub mod HostView
+pub mod DoorCalls
+pub mod HostRun
+pub mod Meeting
