@@ -115,7 +115,8 @@ impl Topology {
 
     /// The entries that the list has: the first NumEntries, of 22 at most.
     pub fn listed(&self) -> &[TopologyEntry]
-        ensures { result.now ≡ take self.now.num_entries self.now.entries }
+        ensures listed { result.now ≡ take self.now.num_entries self.now.entries }
+        ensures few { length result.now ≤ 22 }
     {
         let count = usize::from(self.num_entries);
         &self.entries[..count.min(self.entries.len())]

@@ -1,4 +1,5 @@
 -- All messages together, and their listings.
+pub mod EventListing
 pub mod Fault
 pub mod Function
 pub mod Listing

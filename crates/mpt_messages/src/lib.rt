@@ -2,13 +2,14 @@
 #![tactic(auto)]
 
 mod decode;
+mod event_listing;
 mod fault;
 mod function;
 mod listing;
 mod message;
 
-pub use decode::decode_request;
+pub use decode::{decode_reply, decode_request};
 pub use fault::MsgFault;
 pub use function::{Function, Kind};
-pub use listing::{push_fault, push_heading, push_rows, push_short, push_tail};
+pub use listing::{push_fault, push_heading, push_rows, push_rows_from, push_short, push_tail};
 pub use message::{Message, encode, list_text, message_fits};

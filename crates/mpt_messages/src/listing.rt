@@ -26,20 +26,33 @@ pub fn push_rows<const N: usize>(
     values: &[u64; N],
 ) -> Result<(), OutOfMemory>
     requires { N ≤ 64 }
-    ensures { OnOk result (text.new ≡ text.old ++ rows_text layout.now.rows values.now) }
+    ensures { OnOk result (text.new ≡ text.old ++ rows_text 0 layout.now.rows values.now) }
+{
+    push_rows_from(text, 0, layout, values)
+}
+
+/// The same for a part of a message that begins at an offset.
+pub fn push_rows_from<const N: usize>(
+    text: &mut Text,
+    start: u8,
+    layout: &Layout<N>,
+    values: &[u64; N],
+) -> Result<(), OutOfMemory>
+    requires { N ≤ 64 }
+    ensures { OnOk result (text.new ≡ text.old ++ rows_text start layout.now.rows values.now) }
 {
     let rows = layout.rows();
     for i in 0..N {
-        push_row(text, &rows[i], values[i])?;
+        push_row(text, start, &rows[i], values[i])?;
     }
     Ok(())
 }
 
-fn push_row(text: &mut Text, row: &Row, value: u64) -> Result<(), OutOfMemory>
+fn push_row(text: &mut Text, start: u8, row: &Row, value: u64) -> Result<(), OutOfMemory>
     requires { row.now.width ≤ 8 }
-    ensures { OnOk result (text.new ≡ text.old ++ row_text (row_shape row.now) value) }
+    ensures { OnOk result (text.new ≡ text.old ++ row_text start (row_shape row.now) value) }
 {
-    text.push_digits(&[row.at])?;
+    text.push_digits(&[start.wrapping_add(row.at)])?;
     text.push(b" ")?;
     text.push(row.name.as_bytes())?;
     text.push(b" ")?;

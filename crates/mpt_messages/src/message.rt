@@ -3,14 +3,16 @@ ghost use Rattle.std.specs.Prelude.{◌≡◌, ◌≤◌, ◌++◌, IsTrue, IfOk
 ghost use Rattle.mpt_messages.specs.Listing.{listing_text};
 ghost use Rattle.mpt_messages.specs.Message.{MessageStands, message_fit, message_length, message_listing, scsi_reply_listing};
 
+use crate::event_listing::push_event;
 use crate::listing::{push_heading, push_rows, push_tail};
 use config_pages::{
     ConfigAsk, ConfigReply, config_ask_fits, config_reply_fits, encode_config_ask,
     encode_config_reply,
 };
 use event_msgs::{
-    EventAck, EventAckReply, EventAsk, encode_event_ack, encode_event_ack_reply, encode_event_ask,
-    event_ack_fits, event_ack_reply_fits, event_ask_fits,
+    EventAck, EventAckReply, EventAsk, EventReply, encode_event_ack, encode_event_ack_reply,
+    encode_event_ask, encode_event_reply, event_ack_fits, event_ack_reply_fits, event_ask_fits,
+    event_reply_fits,
 };
 use ioc_msgs::{
     IocFacts, IocFactsReply, IocInit, IocInitReply, PortEnable, PortEnableReply, PortFacts,
@@ -66,6 +68,8 @@ pub enum Message {
     PortFactsReply(PortFactsReply),
     /// A Port Enable reply.
     PortEnableReply(PortEnableReply),
+    /// An Event Notification reply, or an event.
+    EventReply(EventReply),
     /// An Event Ack reply.
     EventAckReply(EventAckReply),
     /// A SAS IO unit control reply.
@@ -95,6 +99,7 @@ pub fn message_fits(m: &Message) -> bool
         Message::ConfigReply(m) => config_reply_fits(m),
         Message::PortFactsReply(m) => port_facts_reply_fits(m),
         Message::PortEnableReply(m) => port_enable_reply_fits(m),
+        Message::EventReply(m) => event_reply_fits(m),
         Message::EventAckReply(m) => event_ack_reply_fits(m),
         Message::UnitControlReply(m) => unit_control_reply_fits(m),
     }
@@ -126,6 +131,7 @@ pub fn encode(m: &Message, out: &mut [u8; 128]) -> usize
         Message::ConfigReply(m) => encode_config_reply(m, out),
         Message::PortFactsReply(m) => encode_port_facts_reply(m, out),
         Message::PortEnableReply(m) => encode_port_enable_reply(m, out),
+        Message::EventReply(m) => encode_event_reply(m, out),
         Message::EventAckReply(m) => encode_event_ack_reply(m, out),
         Message::UnitControlReply(m) => encode_unit_control_reply(m, out),
     }
@@ -221,6 +227,7 @@ fn push_message(text: &mut Text, m: &Message) -> Result<(), OutOfMemory>
             &PortEnableReply::layout(),
             &m.values(),
         ),
+        Message::EventReply(m) => push_event(text, m),
         Message::EventAckReply(m) => push_plain(
             text,
             b"event-ack-reply",
