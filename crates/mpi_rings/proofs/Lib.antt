@@ -1,0 +1,4 @@
+pub mod Flags
+pub mod Fitting
+pub mod Requests
+pub mod Replies
