@@ -1,4 +1,5 @@
 -- What the contracts of descriptors and rings say.
 pub mod RequestDescriptor
 pub mod ReplyDescriptor
+pub mod PostRing
 pub use Rattle.mpi_layout.specs.Rows
