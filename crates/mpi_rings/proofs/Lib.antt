@@ -2,3 +2,5 @@ pub mod Flags
 pub mod Fitting
 pub mod Requests
 pub mod Replies
+pub mod Rounds
+pub mod Posting

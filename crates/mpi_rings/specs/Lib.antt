@@ -2,4 +2,5 @@
 pub mod RequestDescriptor
 pub mod ReplyDescriptor
 pub mod PostRing
+pub mod PostEntries
 pub use Rattle.mpi_layout.specs.Rows
