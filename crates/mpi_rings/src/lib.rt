@@ -6,6 +6,8 @@ mod free_ring;
 mod post_ring;
 mod reply_descriptor;
 mod request_descriptor;
+#[cfg(test)]
+mod tests;
 
 pub use free_ring::{FREE_RING_ENTRIES, FreeRing};
 pub use post_ring::{POST_RING_ENTRIES, PostRing, UNUSED_ENTRY};

@@ -1,5 +1,5 @@
 //! The reply post ring.
-ghost use Rattle.std.specs.Prelude.{◌≡◌, ◌≢◌, ◌≤◌, ◌<◌, ◌+◌, ◌%◌, ◌↔◌, length, replicate, slice_get, IfOk, IfSome, IsTrue};
+ghost use Rattle.std.specs.Prelude.{◌≡◌, ◌≢◌, ◌≤◌, ◌<◌, ◌+◌, ◌%◌, ◌↔◌, length, replicate, slice_get, IfOk, IfSome, IsSome, IsTrue};
 ghost use Rattle.mpi_rings.specs.PostRing.{all_unused, with_first_read, with_posted};
 
 use crate::OutOfMemory;
@@ -91,6 +91,7 @@ impl PostRing {
     /// entry there is unused, since none waits.
     pub fn next(&self) -> Option<u64>
         ensures oldest { result ≡ slice_get self.now.waiting 0 }
+        ensures some { IsSome result ↔ (0 < length self.now.waiting) }
         ensures used { IfSome result (λ d. d ≢ UNUSED_ENTRY) }
     {
         let entry = self.entries[usize::from(self.host_index)];
