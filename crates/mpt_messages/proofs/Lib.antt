@@ -1,3 +1,5 @@
 pub mod Arms
 pub mod FunctionByte
 pub mod RowsText
+pub mod CommandFits
+pub mod HostFits

@@ -1,7 +1,9 @@
 -- All messages together, and their listings.
+pub mod Blank
 pub mod EventListing
 pub mod Fault
 pub mod Function
+pub mod HostFrames
 pub mod Listing
 pub mod Message
 pub mod Refusal
