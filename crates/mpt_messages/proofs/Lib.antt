@@ -3,3 +3,4 @@ pub mod FunctionByte
 pub mod RowsText
 pub mod CommandFits
 pub mod HostFits
+pub mod IocFits

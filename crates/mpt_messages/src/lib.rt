@@ -3,18 +3,22 @@
 
 mod blank;
 mod decode;
+mod device_pages;
 mod event_listing;
 mod fault;
 mod function;
 mod host_ask;
+mod ioc_reply;
 mod listing;
 mod message;
 mod numbers;
 
 pub use decode::{decode_reply, decode_request};
+pub use device_pages::device_page;
 pub use fault::MsgFault;
 pub use function::{Function, Kind};
 pub use host_ask::{HostAsk, host_frame};
+pub use ioc_reply::{IocReply, ioc_frame};
 pub use listing::{push_fault, push_heading, push_rows, push_rows_from, push_short, push_tail};
 pub use message::{Message, encode, list_text, message_fits};
 pub use numbers::{Address, Handle, Smid};

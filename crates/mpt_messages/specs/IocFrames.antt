@@ -1,0 +1,150 @@
+-- What the controller writes: each of its replies as a message or a plain reply, and which it may give.
+use Rattle.std.specs.Prelude.{◌≡◌, ℕ, ◌≤◌, ◌<◌, Bool, ◌==◌, nat_le, if◌then◌else◌, Option, Some, None, List, [], ◌∷◌, ◌++◌, take, replicate}
+use Rattle.byteorder.specs.Endian.{little_bytes}
+use Rattle.scsi_msgs.specs.declared.scsi_reply.ScsiReply.{ScsiReply}
+use Rattle.scsi_msgs.specs.declared.task_reply.TaskReply.{TaskReply}
+use Rattle.ioc_msgs.specs.declared.ioc_facts_reply.IocFactsReply.{IocFactsReply}
+use Rattle.ioc_msgs.specs.declared.port_facts_reply.PortFactsReply.{PortFactsReply}
+use Rattle.ioc_msgs.specs.declared.unit_control_reply.UnitControlReply.{UnitControlReply}
+use Rattle.config_pages.specs.declared.config_reply.ConfigReply.{ConfigReply}
+use Rattle.event_msgs.specs.declared.event_reply.EventReply.{EventReply}
+use Rattle.event_msgs.specs.declared.event_data.EventData.TheVariants as kind
+use Rattle.event_msgs.specs.declared.topology.Topology.{Topology}
+use Rattle.event_msgs.specs.declared.topology_entry.TopologyEntry.{TopologyEntry}
+use Rattle.mpt_messages.specs.Blank.{blank_scsi_reply, blank_task_reply, blank_ioc_facts_reply, blank_port_facts_reply, blank_config_reply, blank_unit_control_reply, blank_event_reply, blank_topology, blank_topology_entry}
+use Rattle.mpt_messages.specs.DevicePage.{expander_handle}
+use Rattle.mpt_messages.specs.declared.ioc_reply.IocReply.{IocReply}
+use Rattle.mpt_messages.specs.declared.ioc_reply.IocReply.TheVariants as reply
+use Rattle.mpt_messages.specs.declared.message.Message.{Message}
+use Rattle.mpt_messages.specs.declared.message.Message.TheVariants as message
+use Rattle.mpt_messages.specs.Message.{MessageStands, message_length}
+
+-- the 20 bytes of a plain reply: all 0 but MsgLength 5, the Function and the IOCStatus
+abbrev pub plain_reply : ℕ → ℕ → List ℕ
+plain_reply function status = (0 ∷ 0 ∷ 5 ∷ function ∷ replicate 10 0) ++ little_bytes 2 status ++ replicate 4 0
+
+-- a SCSI IO's reply, whose TaskTag is its identifier; SCSIState says whether there are sense data
+abbrev pub scsi_answered : ℕ → ℕ → ℕ → ℕ → ℕ → ℕ → ScsiReply
+scsi_answered handle smid scsi_status status moved sense = record blank_scsi_reply {
+  dev_handle = handle;
+  scsi_status = scsi_status;
+  scsi_state = if sense == 0 then 0 else 1;
+  ioc_status = status;
+  transfer_count = moved;
+  sense_count = sense;
+  task_tag = smid;
+}
+
+-- a task management reply
+abbrev pub task_answered : ℕ → ℕ → ℕ → ℕ → ℕ → TaskReply
+task_answered handle task_type status code count = record blank_task_reply {
+  dev_handle = handle;
+  response_code = code;
+  task_type = task_type;
+  ioc_status = status;
+  termination_count = count;
+}
+
+-- a configuration reply: the header of SAS Device Page 0 where its action, 0 or 1, asks for it
+abbrev pub config_answered : ℕ → ℕ → ℕ → ConfigReply
+config_answered action ext_type status = record blank_config_reply {
+  action = action;
+  ext_page_length = if nat_le action 1 then 14 else 0;
+  ext_page_type = ext_type;
+  ioc_status = status;
+  page_version = if nat_le action 1 then 8 else 0;
+  page_type = if nat_le action 1 then 0x0f else 0;
+}
+
+-- what the controller has and takes, with so many reply post queues
+abbrev pub facts_answered : ℕ → ℕ → IocFactsReply
+facts_answered who_init queues = record blank_ioc_facts_reply {
+  msg_version = 0x0200;
+  who_init = who_init;
+  number_of_ports = 1;
+  max_msix_vectors = queues;
+  request_credit = 280;
+  fw_version = 0x0100_0000;
+  ioc_request_frame_size = 32;
+  max_targets = 64;
+  max_sas_expanders = 16;
+  max_enclosures = 1;
+  protocol_flags = 0x0002;
+  high_priority_credit = 8;
+  max_reply_descriptor_post_queue_depth = 352;
+  reply_frame_size = 32;
+  max_dev_handle = 0x0058;
+  min_dev_handle = 0x0009;
+}
+
+-- a port's facts: its type is SAS initiator
+abbrev pub port_answered : ℕ → ℕ → PortFactsReply
+port_answered port status = record blank_port_facts_reply { port_number = port; port_type = 0x30; ioc_status = status }
+
+-- the reply to the removal of a device
+abbrev pub removal_answered : ℕ → ℕ → ℕ → UnitControlReply
+removal_answered handle operation status = record blank_unit_control_reply { operation = operation; dev_handle = handle; ioc_status = status }
+
+-- one change at a phy of an expander: PhyStatus 1 where the device was added, 2 where it no longer responds
+abbrev pub change_entry : ℕ → Bool → TopologyEntry
+change_entry handle added = record blank_topology_entry { attached_dev_handle = handle; phy_status = if added then 1 else 2 }
+
+-- a topology change list of that one change
+abbrev pub change_list : ℕ → ℕ → ℕ → ℕ → Bool → Topology
+change_list handle expander phys phy added = record blank_topology {
+  enclosure_handle = 1;
+  expander_dev_handle = expander_handle expander;
+  num_phys = phys;
+  num_entries = 1;
+  start_phy_num = phy;
+  exp_status = 3;
+  entries = change_entry handle added ∷ replicate 21 blank_topology_entry;
+}
+
+-- its event
+abbrev pub topology_told : ℕ → ℕ → ℕ → ℕ → ℕ → Bool → EventReply
+topology_told context handle expander phys phy added = record blank_event_reply {
+  event_data_length = 4;
+  msg_length = 11;
+  ack_required = 1;
+  event = 0x001c;
+  event_context = context;
+  event_data = kind.Topology (change_list handle expander phys phy added);
+}
+
+-- the message of a reply; a plain reply needn't be one
+abbrev pub ioc_message : IocReply → Option Message
+ioc_message (reply.Plain function status) = None
+ioc_message (reply.Scsi handle smid scsi_status status moved sense) = Some (message.ScsiReply (scsi_answered handle smid scsi_status status moved sense))
+ioc_message (reply.Task handle task_type status code count) = Some (message.TaskReply (task_answered handle task_type status code count))
+ioc_message (reply.Config action ext_type status) = Some (message.ConfigReply (config_answered action ext_type status))
+ioc_message (reply.Facts who_init queues) = Some (message.IocFactsReply (facts_answered who_init queues))
+ioc_message (reply.PortFacts port status) = Some (message.PortFactsReply (port_answered port status))
+ioc_message (reply.Removed handle operation status) = Some (message.UnitControlReply (removal_answered handle operation status))
+ioc_message reply.Notified = Some (message.EventReply blank_event_reply)
+ioc_message (reply.Topology context handle expander phys phy added) = Some (message.EventReply (topology_told context handle expander phys phy added))
+
+-- the bytes stand for a message that there is
+abbrev pub StandFor : Option Message → List ℕ → Type 0
+StandFor None bytes = ⊥
+StandFor (Some m) bytes = MessageStands m bytes
+
+-- the bytes stand for the reply
+abbrev pub ReplyStands : IocReply → List ℕ → Type 0
+ReplyStands (reply.Plain function status) bytes = take 20 bytes ≡ plain_reply function status
+ReplyStands other bytes = StandFor (ioc_message other) bytes
+
+-- the length in bytes of a message, or of a plain reply
+abbrev pub length_said : Option Message → ℕ
+length_said None = 20
+length_said (Some m) = message_length m
+
+-- the reply's length in bytes
+abbrev pub reply_length : IocReply → ℕ
+reply_length r = length_said (ioc_message r)
+
+-- what the controller may answer
+abbrev pub IsAnswer : IocReply → Type 0
+IsAnswer (reply.Facts who_init queues) = (1 ≤ queues) × (queues ≤ 8)
+IsAnswer (reply.Topology context handle expander phys phy added) = expander < 16
+IsAnswer other = Unit {0}
