@@ -12,6 +12,8 @@ mod ioc_reply;
 mod listing;
 mod message;
 mod numbers;
+#[cfg(test)]
+mod tests;
 
 pub use decode::{decode_reply, decode_request};
 pub use device_pages::device_page;
