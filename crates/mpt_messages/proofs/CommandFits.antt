@@ -1,12 +1,12 @@
 -- A SCSI IO that the host may ask fits its layout.
-use Rattle.std.proofs.Common.{◌≡◌, ℕ, ◌+◌, ◌*◌, ◌^◌, ◌<◌, ◌≤◌, ◌⊎◌, inl, inr, IsTrue, Bool, true, false, nat_lt, ◌==◌, bit_and, List, refl, sym, ◌%◌, ◌-◌, ◌∙◌, arith}
+use Rattle.std.proofs.Common.{◌≡◌, ℕ, ◌^◌, ◌<◌, ◌≤◌, ◌⊎◌, IsTrue, Bool, true, ◌==◌, bit_and, ◌%◌, ◌∙◌, arith}
 use Rattle.std.proofs.lemmas.Nat.{and_mask}
 use Rattle.std.proofs.lemmas.Bool.Decides.{nat_tests}
 use Rattle.mpi_layout.specs.Rows.{values_fit}
 use Rattle.scsi_msgs.specs.declared.scsi_io.ScsiIo.{ScsiIo}
 use Rattle.scsi_msgs.specs.ScsiIo.{scsi_io_layout, scsi_io_values}
 use Rattle.mpt_messages.specs.Blank.{blank_scsi_io}
-use Rattle.mpt_messages.specs.HostFrames.{direction, element_flags}
+use Rattle.mpt_messages.specs.HostFrames.{direction}
 
 -- a SCSI IO of these numbers
 abbrev pub io : ℕ → ℕ → ℕ → ℕ → ℕ → ℕ → ℕ → ℕ → ℕ → ℕ → ScsiIo

@@ -1,7 +1,7 @@
 -- Each request that the host may ask fits its layout.
-use Rattle.std.proofs.Common.{IsTrue, ◌≡◌, ℕ, ◌^◌, ◌<◌, ◌≤◌, ◌⊎◌, inl, inr, Bool, true, false, List, refl, sym, subst, arith}
+use Rattle.std.proofs.Common.{IsTrue, ℕ, ◌^◌, ◌<◌, ◌≤◌, inl, inr, refl, sym, subst, arith}
 use Rattle.std.proofs.lemmas.Bool.Decides.{nat_tests}
-use Rattle.mpi_layout.specs.Rows.{field, values_fit}
+use Rattle.mpi_layout.specs.Rows.{values_fit}
 use Rattle.scsi_msgs.specs.TaskAsk.{task_ask_layout, task_ask_values}
 use Rattle.ioc_msgs.specs.IocInit.{ioc_init_layout, ioc_init_values}
 use Rattle.ioc_msgs.specs.IocFacts.{ioc_facts_layout, ioc_facts_values}

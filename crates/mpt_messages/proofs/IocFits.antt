@@ -1,5 +1,5 @@
 -- Each reply that the controller may give fits its layout, and so does its page.
-use Rattle.std.proofs.Common.{IsTrue, ◌≡◌, ℕ, ◌^◌, ◌<◌, ◌≤◌, Bool, true, false, List, refl, arith}
+use Rattle.std.proofs.Common.{IsTrue, ℕ, ◌^◌, ◌<◌, Bool, refl, arith}
 use Rattle.std.proofs.lemmas.Bool.Decides.{nat_tests}
 use Rattle.mpi_layout.specs.Rows.{values_fit}
 use Rattle.scsi_msgs.specs.ScsiReply.{scsi_reply_fit, scsi_reply_layout, scsi_reply_values}

@@ -1,6 +1,10 @@
 pub mod Arms
+pub mod EventBytes
 pub mod FunctionByte
+pub mod MessageBytes
+pub mod RowsBytes
 pub mod RowsText
+pub mod Shapes
 pub mod CommandFits
 pub mod HostFits
 pub mod IocFits

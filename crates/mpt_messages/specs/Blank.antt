@@ -1,5 +1,5 @@
 -- Messages and pages whose fields are 0, but for the Function and the least MsgLength.
-use Rattle.std.specs.Prelude.{ℕ, List, replicate}
+use Rattle.std.specs.Prelude.{replicate}
 use Rattle.scsi_msgs.specs.declared.scsi_io.ScsiIo.{ScsiIo}
 use Rattle.scsi_msgs.specs.declared.task_ask.TaskAsk.{TaskAsk}
 use Rattle.ioc_msgs.specs.declared.ioc_init.IocInit.{IocInit}

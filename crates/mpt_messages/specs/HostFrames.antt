@@ -1,5 +1,5 @@
 -- What the host writes: each of its requests as a message, and which it may ask.
-use Rattle.std.specs.Prelude.{◌≡◌, ℕ, ◌+◌, ◌*◌, ◌≤◌, ◌⊎◌, Bool, true, false, ◌==◌, if◌then◌else◌, List, All, drop}
+use Rattle.std.specs.Prelude.{◌≡◌, ℕ, ◌+◌, ◌*◌, ◌≤◌, ◌⊎◌, Bool, false, ◌==◌, if◌then◌else◌, List, All, drop}
 use Rattle.mpi_layout.specs.Rows.{field}
 use Rattle.scsi_msgs.specs.declared.scsi_io.ScsiIo.{ScsiIo}
 use Rattle.scsi_msgs.specs.declared.task_ask.TaskAsk.{TaskAsk}

@@ -12,6 +12,7 @@ use Rattle.event_msgs.specs.declared.event_data.EventData.TheVariants as kind
 use Rattle.event_msgs.specs.declared.topology.Topology.{Topology}
 use Rattle.event_msgs.specs.declared.topology_entry.TopologyEntry.{TopologyEntry}
 use Rattle.mpt_messages.specs.Blank.{blank_scsi_reply, blank_task_reply, blank_ioc_facts_reply, blank_port_facts_reply, blank_config_reply, blank_unit_control_reply, blank_event_reply, blank_topology, blank_topology_entry}
+use Rattle.mpt_messages.specs.FrameBytes.{message_frame}
 use Rattle.mpt_messages.specs.DevicePage.{expander_handle}
 use Rattle.mpt_messages.specs.declared.ioc_reply.IocReply.{IocReply}
 use Rattle.mpt_messages.specs.declared.ioc_reply.IocReply.TheVariants as reply
@@ -77,7 +78,7 @@ facts_answered who_init queues = record blank_ioc_facts_reply {
   min_dev_handle = 0x0009;
 }
 
--- a port's facts: its type is SAS initiator
+-- a port's facts: its type is a physical SAS port
 abbrev pub port_answered : ℕ → ℕ → PortFactsReply
 port_answered port status = record blank_port_facts_reply { port_number = port; port_type = 0x30; ioc_status = status }
 
@@ -142,6 +143,16 @@ length_said (Some m) = message_length m
 -- the reply's length in bytes
 abbrev pub reply_length : IocReply → ℕ
 reply_length r = length_said (ioc_message r)
+
+-- the whole frame of a message that there is
+abbrev pub frame_said : Option Message → List ℕ
+frame_said None = []
+frame_said (Some m) = message_frame m
+
+-- the whole frame of a reply
+abbrev pub reply_frame : IocReply → List ℕ
+reply_frame (reply.Plain function status) = plain_reply function status ++ replicate 108 0
+reply_frame other = frame_said (ioc_message other)
 
 -- what the controller may answer
 abbrev pub IsAnswer : IocReply → Type 0

@@ -1,8 +1,9 @@
--- All messages together, and their listings.
+-- All messages together, their listings, and the frames that the two ends write.
 pub mod Blank
 pub mod DevicePage
 pub mod EventListing
 pub mod Fault
+pub mod FrameBytes
 pub mod Function
 pub mod HostFrames
 pub mod IocFrames

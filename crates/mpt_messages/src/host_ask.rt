@@ -7,11 +7,13 @@ ghost use Rattle.ioc_msgs.specs.IocInit.{ioc_init_layout, ioc_init_values};
 ghost use Rattle.ioc_msgs.specs.UnitControl.{unit_control_layout, unit_control_values};
 ghost use Rattle.config_pages.specs.ConfigAsk.{config_ask_layout, config_ask_values};
 ghost use Rattle.event_msgs.specs.EventAck.{event_ack_layout, event_ack_values};
+ghost use Rattle.mpt_messages.specs.FrameBytes.{message_frame};
 ghost use Rattle.mpt_messages.specs.HostFrames.{IsAsk, IsTask, ack_asked, data_address, direction, element_address, host_message, init_asked, notification_asked, page_asked, removal_asked, scsi_io_asked, task_asked};
 ghost use Rattle.mpt_messages.specs.Message.{MessageStands, message_fit, message_length};
 
 use crate::blank;
-use crate::message::{Message, encode};
+use crate::frame::write_frame;
+use crate::message::Message;
 use crate::numbers::{Handle, Smid};
 use byteorder::{ByteOrder, LittleEndian};
 use config_pages::{ConfigAsk, PageForm, page_address};
@@ -76,7 +78,7 @@ pub enum HostAsk {
         /// The device handle.
         handle: Handle,
     },
-    /// The removal of a device (mpi2_sas.h, MPI2_SASIOUNIT_CONTROL_REQUEST, operation
+    /// The removal of a device (mpi2_sas.h, MPI2_SAS_IOUNIT_CONTROL_REQUEST, operation
     /// MPI2_SAS_OP_REMOVE_DEVICE).
     Remove {
         /// The device handle.
@@ -112,9 +114,9 @@ pub fn host_frame(ask: &HostAsk, out: &mut [u8; 128]) -> usize
     ensures stands { MessageStands (host_message ask.now) out.new }
     ensures rest { drop (message_length (host_message ask.now)) out.new
         ≡ replicate (128 - message_length (host_message ask.now)) 0 }
+    ensures whole { out.new ≡ message_frame (host_message ask.now) }
 {
-    *out = [0; 128];
-    encode(&message_of(ask), out)
+    write_frame(&message_of(ask), out)
 }
 
 // The request's message.

@@ -8,11 +8,12 @@ ghost use Rattle.ioc_msgs.specs.PortFactsReply.{port_facts_reply_layout, port_fa
 ghost use Rattle.ioc_msgs.specs.UnitControlReply.{unit_control_reply_layout, unit_control_reply_values};
 ghost use Rattle.config_pages.specs.ConfigReply.{config_reply_layout, config_reply_values};
 ghost use Rattle.event_msgs.specs.EventReply.{event_reply_fit};
-ghost use Rattle.mpt_messages.specs.IocFrames.{IsAnswer, ReplyStands, config_answered, facts_answered, plain_reply, port_answered, removal_answered, reply_length, scsi_answered, task_answered, topology_told};
+ghost use Rattle.mpt_messages.specs.IocFrames.{IsAnswer, ReplyStands, config_answered, facts_answered, plain_reply, port_answered, removal_answered, reply_frame, reply_length, scsi_answered, task_answered, topology_told};
 
 use crate::blank;
 use crate::device_pages::expander_handle;
-use crate::message::{Message, encode};
+use crate::frame::write_frame;
+use crate::message::Message;
 use crate::numbers::{Handle, Smid};
 use byteorder::{ByteOrder, LittleEndian};
 use config_pages::ConfigReply;
@@ -82,7 +83,7 @@ pub enum IocReply {
         /// The IOCStatus.
         status: u16,
     },
-    /// A SAS IO unit control reply (mpi2_sas.h, MPI2_SASIOUNIT_CONTROL_REPLY).
+    /// A SAS IO unit control reply (mpi2_sas.h, MPI2_SAS_IOUNIT_CONTROL_REPLY).
     Removed {
         /// The request's device handle.
         handle: Handle,
@@ -118,8 +119,8 @@ pub fn ioc_frame(reply: &IocReply, out: &mut [u8; 128]) -> usize
     ensures stands { ReplyStands reply.now out.new }
     ensures rest { drop (reply_length reply.now) out.new
         ≡ replicate (128 - reply_length reply.now) 0 }
+    ensures whole { out.new ≡ reply_frame reply.now }
 {
-    *out = [0; 128];
     match *reply {
         IocReply::Plain { function, status } => put_plain(function, status, out),
         IocReply::Scsi {
@@ -129,7 +130,7 @@ pub fn ioc_frame(reply: &IocReply, out: &mut [u8; 128]) -> usize
             status,
             moved,
             sense,
-        } => encode(
+        } => write_frame(
             &Message::ScsiReply(scsi(handle, smid, scsi_status, status, moved, sense)),
             out,
         ),
@@ -139,7 +140,7 @@ pub fn ioc_frame(reply: &IocReply, out: &mut [u8; 128]) -> usize
             status,
             code,
             count,
-        } => encode(
+        } => write_frame(
             &Message::TaskReply(task(handle, task_type, status, code, count)),
             out,
         ),
@@ -147,22 +148,22 @@ pub fn ioc_frame(reply: &IocReply, out: &mut [u8; 128]) -> usize
             action,
             ext_type,
             status,
-        } => encode(&Message::ConfigReply(config(action, ext_type, status)), out),
+        } => write_frame(&Message::ConfigReply(config(action, ext_type, status)), out),
         IocReply::Facts { who_init, queues } => {
-            encode(&Message::IocFactsReply(facts(who_init, queues)), out)
+            write_frame(&Message::IocFactsReply(facts(who_init, queues)), out)
         }
         IocReply::PortFacts { port, status } => {
-            encode(&Message::PortFactsReply(port_facts(port, status)), out)
+            write_frame(&Message::PortFactsReply(port_facts(port, status)), out)
         }
         IocReply::Removed {
             handle,
             operation,
             status,
-        } => encode(
+        } => write_frame(
             &Message::UnitControlReply(removed(handle, operation, status)),
             out,
         ),
-        IocReply::Notified => encode(&Message::EventReply(blank::EVENT_REPLY), out),
+        IocReply::Notified => write_frame(&Message::EventReply(blank::EVENT_REPLY), out),
         IocReply::Topology {
             context,
             handle,
@@ -170,19 +171,19 @@ pub fn ioc_frame(reply: &IocReply, out: &mut [u8; 128]) -> usize
             phys,
             phy,
             added,
-        } => encode(
+        } => write_frame(
             &Message::EventReply(topology(context, handle, expander, phys, phy, added)),
             out,
         ),
     }
 }
 
-// Writes a plain reply over the front of a frame of zeros.
+// Writes the whole frame of a plain reply, and gives the reply's length.
 fn put_plain(function: u8, status: u16, out: &mut [u8; 128]) -> usize
-    requires { out.old ≡ replicate 128 0 }
     ensures long { result ≡ 20 }
     ensures whole { out.new ≡ plain_reply function status ++ replicate 108 0 }
 {
+    *out = [0; 128];
     out[2] = 5;
     out[3] = function;
     LittleEndian::write_u16(&mut out[14..], status);

@@ -1,4 +1,4 @@
-//! All messages of the profile together, and their listings.
+//! All messages of the profile together, their listings, and the frames that the two ends write.
 #![tactic(auto)]
 
 mod blank;
@@ -6,6 +6,7 @@ mod decode;
 mod device_pages;
 mod event_listing;
 mod fault;
+mod frame;
 mod function;
 mod host_ask;
 mod ioc_reply;

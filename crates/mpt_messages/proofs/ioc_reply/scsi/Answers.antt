@@ -1,5 +1,4 @@
 use Rattle.std.proofs.Common.{IsTrue, subst, sym, rules, arith}
-use Rattle.std.proofs.lemmas.Bool.Decides.{nat_tests}
 use Rattle.std.proofs.lemmas.Grind.{common_steps}
 use Rattle.scsi_msgs.specs.declared.scsi_reply.ScsiReply.{ScsiReply}
 use Rattle.scsi_msgs.specs.ScsiReply.{scsi_reply_fit}

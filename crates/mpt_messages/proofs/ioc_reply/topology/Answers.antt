@@ -1,5 +1,4 @@
 use Rattle.std.proofs.Common.{IsTrue, subst, sym, rules, arith}
-use Rattle.std.proofs.lemmas.Bool.Decides.{nat_tests}
 use Rattle.std.proofs.lemmas.Grind.{common_steps}
 use Rattle.event_msgs.specs.declared.event_reply.EventReply.{EventReply}
 use Rattle.event_msgs.specs.EventReply.{event_reply_fit}
