@@ -5,3 +5,4 @@ pub mod Function
 pub mod Listing
 pub mod Message
 pub mod Refusal
+pub mod RefusalListing
