@@ -1,5 +1,5 @@
 //! An event's data.
-ghost use Rattle.std.specs.Prelude.{◌≡◌, ◌==◌, ◌*◌, ◌≤◌, IsTrue, IfOk, MatchResult, Some, length, drop};
+ghost use Rattle.std.specs.Prelude.{◌≡◌, ◌==◌, ◌*◌, ◌≤◌, IsTrue, IfOk, MatchResult, Some, length, take, drop};
 ghost use Rattle.std.specs.List.{list_all};
 ghost use Rattle.mpi_layout.specs.Rows.{field};
 ghost use Rattle.event_msgs.specs.EventData.{DataStands, data_fit, data_tail, kind_fits};
@@ -48,15 +48,20 @@ impl EventData {
 
     // The bytes of the data behind the rows and the entries, of so many in all.
     pub(crate) fn tail(&self, length: usize) -> &[u8]
-        requires few { length ≤ 100 }
-        requires fitting { IsTrue (data_fit length self.now) }
         ensures { result.now ≡ data_tail length self.now }
     {
         match self {
             EventData::Topology(t) => t.tail_bytes(length),
-            EventData::Other { bytes } => &bytes[..length],
+            EventData::Other { bytes } => front(bytes, length),
         }
     }
+}
+
+// The first bytes, so many or all.
+fn front(bytes: &[u8; 100], count: usize) -> &[u8]
+    ensures { result.now ≡ take count bytes.now }
+{
+    &bytes[..count.min(bytes.len())]
 }
 
 // Reads the event's data of so many dwords.

@@ -139,7 +139,6 @@ impl EventReply {
     /// The bytes of the data that no row reads: of a topology change list those behind its entries,
     /// of any other event all.
     pub fn tail_bytes(&self) -> &[u8]
-        requires { IsTrue (event_reply_fit self.now) }
         ensures { result.now ≡ data_tail (4 * self.now.event_data_length) self.now.event_data }
     {
         self.event_data.tail(self.data_length())

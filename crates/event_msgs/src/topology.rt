@@ -115,19 +115,19 @@ impl Topology {
 
     /// The entries that the list has: the first NumEntries, of 22 at most.
     pub fn listed(&self) -> &[TopologyEntry]
-        requires { self.now.num_entries ≤ 22 }
-        ensures { result.now ≡ take self.now.num_entries self.now.entries }
+        ensures listed { result.now ≡ take self.now.num_entries self.now.entries }
+        ensures few { length result.now ≤ 22 }
     {
-        &self.entries[..usize::from(self.num_entries)]
+        let count = usize::from(self.num_entries);
+        &self.entries[..count.min(self.entries.len())]
     }
 
     // The bytes behind the entries in event data of so many bytes.
     pub(crate) fn tail_bytes(&self, length: usize) -> &[u8]
-        requires few { length ≤ 100 }
-        requires fitting { IsTrue (topology_fit length self.now) }
         ensures { result.now ≡ take (length - topology_end self.now) self.now.tail }
     {
-        &self.tail[..length - self.end()]
+        let count = length.saturating_sub(self.end());
+        &self.tail[..count.min(self.tail.len())]
     }
 }
 

@@ -49,6 +49,8 @@ use Rattle.ioc_msgs.specs.declared.port_facts_reply.PortFactsReply.{PortFactsRep
 use Rattle.ioc_msgs.specs.PortFactsReply.{PortFactsReplyStands, port_facts_reply_layout, port_facts_reply_values}
 use Rattle.ioc_msgs.specs.declared.port_enable_reply.PortEnableReply.{PortEnableReply}
 use Rattle.ioc_msgs.specs.PortEnableReply.{PortEnableReplyStands, port_enable_reply_layout, port_enable_reply_values}
+use Rattle.event_msgs.specs.declared.event_reply.EventReply.{EventReply}
+use Rattle.event_msgs.specs.EventReply.{EventReplyStands, event_reply_layout, event_reply_values}
 use Rattle.event_msgs.specs.declared.event_ack_reply.EventAckReply.{EventAckReply}
 use Rattle.event_msgs.specs.EventAckReply.{EventAckReplyStands, event_ack_reply_layout, event_ack_reply_values}
 use Rattle.ioc_msgs.specs.declared.unit_control_reply.UnitControlReply.{UnitControlReply}
@@ -142,6 +144,10 @@ port_enable_reply-function : (m : PortEnableReply) (bytes : List ℕ) → PortEn
 unfolding port_enable_reply_layout
 port_enable_reply-function m bytes stands = row_function port_enable_reply_layout (port_enable_reply_values m) bytes 2 20 function.PortEnable stands (lit< tt) refl refl refl (lit≤ tt)
 
+event_reply-function : (m : EventReply) (bytes : List ℕ) → EventReplyStands m bytes → HasFunction 20 function.EventNotification bytes
+unfolding event_reply_layout
+event_reply-function m bytes stands = row_function event_reply_layout (event_reply_values m) bytes 2 20 function.EventNotification stands.fixed (lit< tt) refl refl refl (lit≤ tt)
+
 event_ack_reply-function : (m : EventAckReply) (bytes : List ℕ) → EventAckReplyStands m bytes → HasFunction 20 function.EventAck bytes
 unfolding event_ack_reply_layout
 event_ack_reply-function m bytes stands = row_function event_ack_reply_layout (event_ack_reply_values m) bytes 2 20 function.EventAck stands (lit< tt) refl refl refl (lit≤ tt)
@@ -173,6 +179,7 @@ request_has_function (message.IocFactsReply m) bytes f e stands = cc
 request_has_function (message.ConfigReply m) bytes f e stands = cc
 request_has_function (message.PortFactsReply m) bytes f e stands = cc
 request_has_function (message.PortEnableReply m) bytes f e stands = cc
+request_has_function (message.EventReply m) bytes f e stands = cc
 request_has_function (message.EventAckReply m) bytes f e stands = cc
 request_has_function (message.UnitControlReply m) bytes f e stands = cc
 
@@ -195,6 +202,7 @@ reply_has_function (message.IocFactsReply m) bytes f e stands = subst (λ (g : F
 reply_has_function (message.ConfigReply m) bytes f e stands = subst (λ (g : Function). HasFunction 20 g bytes) (same_some function.Config f e) (config_reply-function m bytes stands)
 reply_has_function (message.PortFactsReply m) bytes f e stands = subst (λ (g : Function). HasFunction 20 g bytes) (same_some function.PortFacts f e) (port_facts_reply-function m bytes stands)
 reply_has_function (message.PortEnableReply m) bytes f e stands = subst (λ (g : Function). HasFunction 20 g bytes) (same_some function.PortEnable f e) (port_enable_reply-function m bytes stands)
+reply_has_function (message.EventReply m) bytes f e stands = subst (λ (g : Function). HasFunction 20 g bytes) (same_some function.EventNotification f e) (event_reply-function m bytes stands)
 reply_has_function (message.EventAckReply m) bytes f e stands = subst (λ (g : Function). HasFunction 20 g bytes) (same_some function.EventAck f e) (event_ack_reply-function m bytes stands)
 reply_has_function (message.UnitControlReply m) bytes f e stands = subst (λ (g : Function). HasFunction 20 g bytes) (same_some function.UnitControl f e) (unit_control_reply-function m bytes stands)
 

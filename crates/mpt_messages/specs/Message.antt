@@ -24,6 +24,8 @@ use Rattle.ioc_msgs.specs.IocFactsReply.{IocFactsReplyStands, ioc_facts_reply_la
 use Rattle.config_pages.specs.ConfigReply.{ConfigReplyStands, config_reply_layout, config_reply_values}
 use Rattle.ioc_msgs.specs.PortFactsReply.{PortFactsReplyStands, port_facts_reply_layout, port_facts_reply_values}
 use Rattle.ioc_msgs.specs.PortEnableReply.{PortEnableReplyStands, port_enable_reply_layout, port_enable_reply_values}
+use Rattle.event_msgs.specs.EventReply.{EventReplyStands, event_reply_fit, event_reply_length}
+use Rattle.mpt_messages.specs.EventListing.{event_listing}
 use Rattle.event_msgs.specs.EventAckReply.{EventAckReplyStands, event_ack_reply_layout, event_ack_reply_values}
 use Rattle.ioc_msgs.specs.UnitControlReply.{UnitControlReplyStands, unit_control_reply_layout, unit_control_reply_values}
 
@@ -46,6 +48,7 @@ MessageStands (message.IocFactsReply m) bytes = IocFactsReplyStands m bytes
 MessageStands (message.ConfigReply m) bytes = ConfigReplyStands m bytes
 MessageStands (message.PortFactsReply m) bytes = PortFactsReplyStands m bytes
 MessageStands (message.PortEnableReply m) bytes = PortEnableReplyStands m bytes
+MessageStands (message.EventReply m) bytes = EventReplyStands m bytes
 MessageStands (message.EventAckReply m) bytes = EventAckReplyStands m bytes
 MessageStands (message.UnitControlReply m) bytes = UnitControlReplyStands m bytes
 
@@ -68,6 +71,7 @@ message_fit (message.IocFactsReply m) = values_fit (ioc_facts_reply_layout).rows
 message_fit (message.ConfigReply m) = values_fit (config_reply_layout).rows (config_reply_values m)
 message_fit (message.PortFactsReply m) = values_fit (port_facts_reply_layout).rows (port_facts_reply_values m)
 message_fit (message.PortEnableReply m) = values_fit (port_enable_reply_layout).rows (port_enable_reply_values m)
+message_fit (message.EventReply m) = event_reply_fit m
 message_fit (message.EventAckReply m) = values_fit (event_ack_reply_layout).rows (event_ack_reply_values m)
 message_fit (message.UnitControlReply m) = values_fit (unit_control_reply_layout).rows (unit_control_reply_values m)
 
@@ -90,13 +94,14 @@ message_length (message.IocFactsReply m) = 64
 message_length (message.ConfigReply m) = 24
 message_length (message.PortFactsReply m) = 28
 message_length (message.PortEnableReply m) = 20
+message_length (message.EventReply m) = event_reply_length m
 message_length (message.EventAckReply m) = 20
 message_length (message.UnitControlReply m) = 20
 
 -- the listing of a SCSI IO reply: its rows and its tail
 abbrev pub scsi_reply_listing : ScsiReply → List ℕ
 scsi_reply_listing m =
-    heading_text (codes "scsi-io-reply") (scsi_reply_length m) ++ rows_text (scsi_reply_layout).rows (scsi_reply_values m)
+    heading_text (codes "scsi-io-reply") (scsi_reply_length m) ++ rows_text 0 (scsi_reply_layout).rows (scsi_reply_values m)
     ++ tail_text 0x28 (take (scsi_reply_length m - 40) m.tail)
 
 -- the listing of the message
@@ -118,6 +123,7 @@ message_listing (message.IocFactsReply m) = listing_text (codes "ioc-facts-reply
 message_listing (message.ConfigReply m) = listing_text (codes "config-reply") config_reply_layout (config_reply_values m)
 message_listing (message.PortFactsReply m) = listing_text (codes "port-facts-reply") port_facts_reply_layout (port_facts_reply_values m)
 message_listing (message.PortEnableReply m) = listing_text (codes "port-enable-reply") port_enable_reply_layout (port_enable_reply_values m)
+message_listing (message.EventReply m) = event_listing m
 message_listing (message.EventAckReply m) = listing_text (codes "event-ack-reply") event_ack_reply_layout (event_ack_reply_values m)
 message_listing (message.UnitControlReply m) = listing_text (codes "sas-unit-control-reply") unit_control_reply_layout (unit_control_reply_values m)
 
@@ -140,6 +146,7 @@ request_function (message.IocFactsReply m) = None
 request_function (message.ConfigReply m) = None
 request_function (message.PortFactsReply m) = None
 request_function (message.PortEnableReply m) = None
+request_function (message.EventReply m) = None
 request_function (message.EventAckReply m) = None
 request_function (message.UnitControlReply m) = None
 
@@ -162,5 +169,6 @@ reply_function (message.IocFactsReply m) = Some function.IocFacts
 reply_function (message.ConfigReply m) = Some function.Config
 reply_function (message.PortFactsReply m) = Some function.PortFacts
 reply_function (message.PortEnableReply m) = Some function.PortEnable
+reply_function (message.EventReply m) = Some function.EventNotification
 reply_function (message.EventAckReply m) = Some function.EventAck
 reply_function (message.UnitControlReply m) = Some function.UnitControl

@@ -30,6 +30,7 @@ use Rattle.ioc_msgs.specs.IocFactsReply.{ioc_facts_reply_layout}
 use Rattle.config_pages.specs.ConfigReply.{config_reply_layout}
 use Rattle.ioc_msgs.specs.PortFactsReply.{port_facts_reply_layout}
 use Rattle.ioc_msgs.specs.PortEnableReply.{port_enable_reply_layout}
+use Rattle.event_msgs.specs.EventReply.{event_reply_refusal}
 use Rattle.event_msgs.specs.EventAckReply.{event_ack_reply_layout}
 use Rattle.ioc_msgs.specs.UnitControlReply.{unit_control_reply_layout}
 
@@ -67,9 +68,9 @@ reply_fault function.IocFacts bytes = first_fault ioc_facts_reply_layout bytes
 reply_fault function.Config bytes = first_fault config_reply_layout bytes
 reply_fault function.PortFacts bytes = first_fault port_facts_reply_layout bytes
 reply_fault function.PortEnable bytes = first_fault port_enable_reply_layout bytes
+reply_fault function.EventNotification bytes = event_reply_refusal bytes
 reply_fault function.EventAck bytes = first_fault event_ack_reply_layout bytes
 reply_fault function.UnitControl bytes = first_fault unit_control_reply_layout bytes
-reply_fault function.EventNotification bytes = None
 
 -- the refusal of a request, by what the byte at 03 says
 abbrev pub request_refusal_as : Kind → List ℕ → Option Function → Option MsgFault

@@ -29,7 +29,7 @@ write-requires c =
 pub returns : goal.returns
 returns c =
     let stands : Stands topology_layout (topology_values c.args.t.now) c.write.new.out = subst (λ (s : Shape). Stands s (topology_values c.args.t.now) c.write.new.out) c.layout.ensures (subst (λ xs. Stands c.layout.result xs c.write.new.out) c.values.ensures c.write.ensures.stands) in
-    let listed = subst (λ xs. (k : ℕ) → k < length xs → entry_at c.write_entries.new.out (12 + 4 * k) ≡ get_or xs k blank) c.listed.ensures c.write_entries.ensures.entries in
+    let listed = subst (λ xs. (k : ℕ) → k < length xs → entry_at c.write_entries.new.out (12 + 4 * k) ≡ get_or xs k blank) c.listed.ensures.listed c.write_entries.ensures.entries in
     let size : length c.write.new.out ≡ length c.args.out.now = c.write.auto.out in
     let same : length c.write_entries.new.out ≡ length c.args.out.now = c.write_entries.auto.out ∙ size in
     let tail : c.copy_from_slice.new.self ≡ take (length c.write_entries.new.out - topology_end c.args.t.now) c.args.t.now.tail = c.copy_from_slice.ensures.after ∙ ap (λ n. take (length c.write_entries.new.out - n) c.args.t.now.tail) c.end-end.ensures in
