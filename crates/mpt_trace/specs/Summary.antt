@@ -1,10 +1,11 @@
 -- The lines at the end of a report.
-use Rattle.std.specs.Prelude.{ℕ, Bool, if◌then◌else◌, Option, Some, None, List, ◌++◌, codes, decimal}
+use Rattle.std.specs.Prelude.{ℕ, Bool, if◌then◌else◌, Option, Some, None, List, [], ◌∷◌, ◌++◌, codes, decimal}
 use Rattle.std.specs.List.{flat_map}
 use Rattle.mpt_trace.specs.declared.host_state.HostState.{HostState}
 use Rattle.mpt_trace.specs.declared.host_state.HostState.TheVariants as state
 use Rattle.mpt_trace.specs.declared.summary.DiskLine.{DiskLine}
 use Rattle.mpt_trace.specs.declared.summary.Summary.{Summary}
+use Rattle.mpt_trace.specs.declared.summary_words.Count.{Count}
 use Rattle.mpt_trace.specs.Numbers.{address_text, line_end, place_text}
 
 -- where a disk is: at a phy of an expander, or out
@@ -15,15 +16,21 @@ whereabouts None = codes " out"
 abbrev pub disk_line : DiskLine → List ℕ
 disk_line disk = codes "disk " ++ address_text disk.address ++ whereabouts disk.at ++ codes " sum " ++ decimal disk.sum ++ line_end
 
+-- a name and its number
+abbrev pub named_number : Count → List ℕ × ℕ
+named_number count = (count.name.now, count.number)
+
+-- names, each with a number after it
+abbrev pub counts_line : List (List ℕ × ℕ) → List ℕ
+counts_line counts = flat_map (λ (count : List ℕ × ℕ). count.0 ++ decimal count.1) counts ++ line_end
+
 abbrev pub answers_line : Summary → List ℕ
-answers_line s =
-    codes "answers done " ++ decimal s.done ++ codes " gone " ++ decimal s.gone ++ codes " terminated " ++ decimal s.terminated
-    ++ codes " reset " ++ decimal s.reset ++ codes " refused " ++ decimal s.refused ++ codes " open " ++ decimal s.unanswered ++ line_end
+answers_line s = counts_line ((codes "answers done ", s.done) ∷ (codes " gone ", s.gone) ∷ (codes " terminated ", s.terminated)
+    ∷ (codes " reset ", s.reset) ∷ (codes " refused ", s.refused) ∷ (codes " open ", s.unanswered) ∷ [])
 
 abbrev pub phases_line : Summary → List ℕ
-phases_line s =
-    codes "phases reading " ++ decimal s.reading ++ codes " ready " ++ decimal s.ready ++ codes " waiting " ++ decimal s.waiting
-    ++ codes " resetting " ++ decimal s.resetting ++ codes " removing " ++ decimal s.removing ++ line_end
+phases_line s = counts_line ((codes "phases reading ", s.reading) ∷ (codes " ready ", s.ready) ∷ (codes " waiting ", s.waiting)
+    ∷ (codes " resetting ", s.resetting) ∷ (codes " removing ", s.removing) ∷ [])
 
 abbrev pub state_text : HostState → List ℕ
 state_text state.Off = codes "off"

@@ -303,7 +303,18 @@ fn push_outcome(text: &mut Text, outcome: &Outcome) -> Result<(), OutOfMemory>
 pub(crate) fn push_refuse_submit(text: &mut Text, n: u32, cause: Refusal) -> Result<(), OutOfMemory>
     ensures { OnOk result (text.new ≡ text.old ++ refuse_submit_text n cause) }
 {
-    push_number(text, b"refuse submit ", u64::from(n))?;
+    push_number_and_cause(text, b"refuse submit ", n, cause)
+}
+
+fn push_number_and_cause(
+    text: &mut Text,
+    word: &[u8],
+    n: u32,
+    cause: Refusal,
+) -> Result<(), OutOfMemory>
+    ensures { OnOk result (text.new ≡ text.old ++ (word.now ++ decimal n ++ codes " " ++ cause_text cause)) }
+{
+    push_number(text, word, u64::from(n))?;
     text.push(b" ")?;
     push_cause(text, cause)
 }

@@ -1,7 +1,7 @@
 //! The lines at the end of a report.
-ghost use Rattle.std.specs.Prelude.{◌≡◌, ◌++◌, IfOk, OnOk};
+ghost use Rattle.std.specs.Prelude.{◌≡◌, ◌++◌, IfOk, OnOk, map};
 ghost use Rattle.std.specs.List.{flat_map};
-ghost use Rattle.mpt_trace.specs.Summary.{answers_line, disk_line, phases_line, state_line, state_text, summary_lines, whereabouts};
+ghost use Rattle.mpt_trace.specs.Summary.{answers_line, counts_line, disk_line, named_number, phases_line, state_line, state_text, summary_lines, whereabouts};
 
 use crate::host_state::HostState;
 use crate::numbers::{push_addressed, push_number, push_place};
@@ -55,23 +55,61 @@ fn push_whereabouts(text: &mut Text, at: Option<(u8, u8)>) -> Result<(), OutOfMe
 fn push_answers(text: &mut Text, s: &Summary) -> Result<(), OutOfMemory>
     ensures { OnOk result (text.new ≡ text.old ++ answers_line s.now) }
 {
-    push_number(text, b"answers done ", s.done)?;
-    push_number(text, b" gone ", s.gone)?;
-    push_number(text, b" terminated ", s.terminated)?;
-    push_number(text, b" reset ", s.reset)?;
-    push_number(text, b" refused ", s.refused)?;
-    push_number(text, b" open ", s.unanswered)?;
-    text.push(b"\n")
+    push_counts(
+        text,
+        &[
+            Count::new(b"answers done ", s.done),
+            Count::new(b" gone ", s.gone),
+            Count::new(b" terminated ", s.terminated),
+            Count::new(b" reset ", s.reset),
+            Count::new(b" refused ", s.refused),
+            Count::new(b" open ", s.unanswered),
+        ],
+    )
 }
 
 fn push_phases(text: &mut Text, s: &Summary) -> Result<(), OutOfMemory>
     ensures { OnOk result (text.new ≡ text.old ++ phases_line s.now) }
 {
-    push_number(text, b"phases reading ", u64::from(s.reading))?;
-    push_number(text, b" ready ", u64::from(s.ready))?;
-    push_number(text, b" waiting ", u64::from(s.waiting))?;
-    push_number(text, b" resetting ", u64::from(s.resetting))?;
-    push_number(text, b" removing ", u64::from(s.removing))?;
+    push_counts(
+        text,
+        &[
+            Count::small(b"phases reading ", s.reading),
+            Count::small(b" ready ", s.ready),
+            Count::small(b" waiting ", s.waiting),
+            Count::small(b" resetting ", s.resetting),
+            Count::small(b" removing ", s.removing),
+        ],
+    )
+}
+
+// A number and the words before it.
+#[derive(Clone, Copy)]
+struct Count {
+    name: &'static [u8],
+    number: u64,
+}
+
+impl Count {
+    fn new(name: &'static [u8], number: u64) -> Count
+        ensures { named_number result ≡ (name.now, number) }
+    {
+        Count { name, number }
+    }
+
+    fn small(name: &'static [u8], number: u8) -> Count
+        ensures { named_number result ≡ (name.now, number) }
+    {
+        Count::new(name, u64::from(number))
+    }
+}
+
+fn push_counts(text: &mut Text, counts: &[Count]) -> Result<(), OutOfMemory>
+    ensures { OnOk result (text.new ≡ text.old ++ counts_line (map named_number counts.now)) }
+{
+    for count in counts {
+        push_number(text, count.name, count.number)?;
+    }
     text.push(b"\n")
 }
 
