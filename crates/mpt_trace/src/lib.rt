@@ -25,6 +25,8 @@ mod refusal;
 mod schedule_words;
 mod summary;
 mod summary_words;
+#[cfg(test)]
+mod tests;
 mod trace;
 
 pub use choice::Choice;
