@@ -8,3 +8,5 @@ pub mod Entries
 pub mod Summary
 pub mod Parties
 pub mod Held
+pub mod Reading
+pub mod ReadingSchedule
