@@ -1,3 +1,4 @@
 -- What the proofs of this crate share.
 pub mod WordsRead
 pub mod ReadSchedule
+pub mod ReadItems

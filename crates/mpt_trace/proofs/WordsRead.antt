@@ -14,6 +14,7 @@ use Rattle.hex.proofs.HexLemmas.{decode_of-encode_lower}
 use Rattle.mpt_text.specs.Words.{bytes_text, hex_number, is_run, run_text}
 use Rattle.mpt_trace.specs.Numbers.{descriptor_text}
 use Rattle.mpt_trace.specs.Items.{frame_text}
+use Rattle.mpt_trace.specs.ReadingItems.{IsFrame}
 use Rattle.mpt_trace.specs.Reading.{IsData, IsNumber, bytes_in, bytes_of_digits, bytes_of_parts, bytes_or_none, descriptor_in, frame_in, hexadecimal, is_word, number, onto, parts, words}
 
 -- ---- parts
@@ -115,6 +116,9 @@ word-encode bytes = free-encode 32 bytes space_table
 pub word-hex : (width n : ℕ) → IsFree 32 (hex_number width n)
 word-hex width n = word-encode (big_bytes width n)
 
+pub word-descriptor : (d : ℕ) → IsFree 32 (descriptor_text d)
+word-descriptor d = word-encode (little_bytes 8 d)
+
 pub word-decimal : (n : ℕ) → IsNumber n → IsFree 32 (decimal n)
 word-decimal n h = free-decimal 32 n refl h
 
@@ -195,11 +199,6 @@ no_dash : (bytes : List ℕ) → is_word (encode_lower bytes) (codes "-") ≡ fa
 unfolding encode_with
 no_dash [] = refl
 no_dash (b ∷ rest) = and-false (slice_index lower_digits (b / 16) == 45)
-
--- a frame's bytes
-abbrev pub IsFrame : Option (List ℕ) → Type 0
-IsFrame None = Unit {0}
-IsFrame (Some frame) = IsBytes frame
 
 pub frame_back : (frame : Option (List ℕ)) → IsFrame frame → frame_in (frame_text frame) ≡ frame
 frame_back None h = refl

@@ -10,3 +10,4 @@ pub mod Parties
 pub mod Held
 pub mod Reading
 pub mod ReadingSchedule
+pub mod ReadingItems
