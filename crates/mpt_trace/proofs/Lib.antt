@@ -2,3 +2,4 @@
 pub mod WordsRead
 pub mod ReadSchedule
 pub mod ReadItems
+pub mod ReadEntries

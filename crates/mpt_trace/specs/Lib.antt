@@ -11,3 +11,4 @@ pub mod Held
 pub mod Reading
 pub mod ReadingSchedule
 pub mod ReadingItems
+pub mod ReadingEntries
