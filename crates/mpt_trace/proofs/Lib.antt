@@ -3,3 +3,4 @@ pub mod WordsRead
 pub mod ReadSchedule
 pub mod ReadItems
 pub mod ReadEntries
+pub mod LineEnds

@@ -64,10 +64,10 @@ pub number-decimal : (n : ℕ) → IsNumber n → number (decimal n) ≡ n
 number-decimal n h = (decimal_is_IsNumeral n h).1
 
 -- a table's digits, and the 0 past them, are no separators
-abbrev IsFreeTable : ℕ → Type 0
+abbrev pub IsFreeTable : ℕ → Type 0
 IsFreeTable s = (k : ℕ) → (slice_index lower_digits k == s) ≡ false
 
-free-encode : (s : ℕ) (bytes : List ℕ) → IsFreeTable s → IsFree s (encode_lower bytes)
+pub free-encode : (s : ℕ) (bytes : List ℕ) → IsFreeTable s → IsFree s (encode_lower bytes)
 unfolding encode_with
 free-encode s [] table = tt
 free-encode s (b ∷ rest) table = (table (b / 16), (table (b % 16), free-encode s rest table))
@@ -109,6 +109,25 @@ star_table (suc (suc (suc (suc (suc (suc (suc (suc (suc (suc (suc (suc (suc zero
 star_table (suc (suc (suc (suc (suc (suc (suc (suc (suc (suc (suc (suc (suc (suc zero)))))))))))))) = refl
 star_table (suc (suc (suc (suc (suc (suc (suc (suc (suc (suc (suc (suc (suc (suc (suc zero))))))))))))))) = refl
 star_table (suc (suc (suc (suc (suc (suc (suc (suc (suc (suc (suc (suc (suc (suc (suc (suc k)))))))))))))))) = refl
+
+pub line_table : IsFreeTable 10
+line_table zero = refl
+line_table (suc zero) = refl
+line_table (suc (suc zero)) = refl
+line_table (suc (suc (suc zero))) = refl
+line_table (suc (suc (suc (suc zero)))) = refl
+line_table (suc (suc (suc (suc (suc zero))))) = refl
+line_table (suc (suc (suc (suc (suc (suc zero)))))) = refl
+line_table (suc (suc (suc (suc (suc (suc (suc zero))))))) = refl
+line_table (suc (suc (suc (suc (suc (suc (suc (suc zero)))))))) = refl
+line_table (suc (suc (suc (suc (suc (suc (suc (suc (suc zero))))))))) = refl
+line_table (suc (suc (suc (suc (suc (suc (suc (suc (suc (suc zero)))))))))) = refl
+line_table (suc (suc (suc (suc (suc (suc (suc (suc (suc (suc (suc zero))))))))))) = refl
+line_table (suc (suc (suc (suc (suc (suc (suc (suc (suc (suc (suc (suc zero)))))))))))) = refl
+line_table (suc (suc (suc (suc (suc (suc (suc (suc (suc (suc (suc (suc (suc zero))))))))))))) = refl
+line_table (suc (suc (suc (suc (suc (suc (suc (suc (suc (suc (suc (suc (suc (suc zero)))))))))))))) = refl
+line_table (suc (suc (suc (suc (suc (suc (suc (suc (suc (suc (suc (suc (suc (suc (suc zero))))))))))))))) = refl
+line_table (suc (suc (suc (suc (suc (suc (suc (suc (suc (suc (suc (suc (suc (suc (suc (suc k)))))))))))))))) = refl
 
 pub word-encode : (bytes : List ℕ) → IsFree 32 (encode_lower bytes)
 word-encode bytes = free-encode 32 bytes space_table
