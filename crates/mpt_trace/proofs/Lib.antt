@@ -4,3 +4,4 @@ pub mod ReadSchedule
 pub mod ReadItems
 pub mod ReadEntries
 pub mod LineEnds
+pub mod ReadTraces

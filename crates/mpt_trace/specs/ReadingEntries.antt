@@ -1,5 +1,6 @@
 -- Entries read back, by their words.
 use Rattle.std.specs.Prelude.{◌≡◌, ℕ, ◌^◌, ◌<◌, ◌-◌, if◌then◌else◌, Option, Some, None, option_map, List, [], ◌∷◌, codes, length, take}
+use Rattle.std.specs.List.{All}
 use Rattle.mpt_trace.specs.declared.entry.Entry.{Entry}
 use Rattle.mpt_trace.specs.declared.entry.Entry.TheVariants as entry
 use Rattle.mpt_trace.specs.declared.item.Item.{Item}
@@ -12,7 +13,7 @@ use Rattle.mpt_trace.specs.declared.outcome.TargetOutcome.TheVariants as target
 use Rattle.mpt_trace.specs.declared.refusal.Refusal.{Refusal}
 use Rattle.mpt_trace.specs.declared.refusal.RefusedCall.{RefusedCall}
 use Rattle.mpt_trace.specs.declared.refusal.RefusedCall.TheVariants as call
-use Rattle.mpt_trace.specs.Entries.{entry_line}
+use Rattle.mpt_trace.specs.Entries.{entry_line, entry_lines}
 use Rattle.mpt_trace.specs.Reading.{IsNumber, hexadecimal, is_word, number, words}
 use Rattle.mpt_trace.specs.ReadingSchedule.{IsChoice, IsInput, choice_in, input_in}
 use Rattle.mpt_trace.specs.ReadingItems.{IsItem, IsLane, IsOfLane, IsOutcome, answer_in, cause_in, moved_in, refused_in}
@@ -151,3 +152,7 @@ ReadsBack e = IsEntry e → entry_read (entry_line e) ≡ Some e
 -- entries with the same line are the same
 abbrev pub IsToldApart : Entry → Entry → Type 0
 IsToldApart one other = IsEntry one → IsEntry other → entry_line one ≡ entry_line other → one ≡ other
+
+-- traces with the same lines are the same
+abbrev pub AreToldApart : List Entry → List Entry → Type 0
+AreToldApart one other = All IsEntry one → All IsEntry other → entry_lines one ≡ entry_lines other → one ≡ other
