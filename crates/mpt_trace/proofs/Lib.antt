@@ -5,3 +5,4 @@ pub mod ReadItems
 pub mod ReadEntries
 pub mod LineEnds
 pub mod ReadTraces
+pub mod CommandLength

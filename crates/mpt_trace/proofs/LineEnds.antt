@@ -1,7 +1,7 @@
 -- No line end stands inside a line.
-use Rattle.std.proofs.Common.{◌≡◌, ℕ, ◌^◌, ◌<◌, Bool, true, false, not, ◌==◌, ◌&&◌, if◌then◌else◌, Option, Some, None, List, [], ◌∷◌, ◌++◌, length, codes, decimal, refl, ◌∙◌}
+use Rattle.std.proofs.Common.{◌≡◌, ℕ, ◌^◌, ◌<◌, Bool, true, false, not, ◌==◌, ◌&&◌, if◌then◌else◌, Option, Some, None, List, [], ◌∷◌, ◌++◌, length, codes, decimal, refl}
 use Rattle.std.proofs.lemmas.Bool.{and_parts}
-use Rattle.hex.specs.Hex.{encode_lower, IsBytes}
+use Rattle.hex.specs.Hex.{encode_lower}
 use Rattle.mpt_text.specs.Words.{bytes_text, hex_number, is_run, run_text}
 use Rattle.scsi_disk.specs.declared.command.Command.{Command}
 use Rattle.scsi_disk.specs.declared.scsi_result.ScsiResult.{ScsiResult}
@@ -45,7 +45,7 @@ use Rattle.mpt_trace.specs.Items.{answer_text, ask_text, back_text, cause_text, 
 use Rattle.mpt_trace.specs.Entries.{abort_text, call_text, target_text, words_of_entry}
 use Rattle.mpt_trace.specs.Reading.{IsData, IsNumber}
 use Rattle.mpt_trace.specs.ReadingSchedule.{IsChoice, IsCommand, IsInput}
-use Rattle.mpt_trace.specs.ReadingItems.{IsAsk, IsBack, IsDown, IsFrame, IsItem, IsLane, IsOut, IsOutcome, IsResult, IsTask, IsTell, IsUp}
+use Rattle.mpt_trace.specs.ReadingItems.{IsAsk, IsBack, IsDown, IsItem, IsLane, IsOut, IsOutcome, IsResult, IsTask, IsTell, IsUp}
 use Rattle.mpt_trace.specs.ReadingEntries.{IsCall, IsEntry, IsTargetOutcome}
 use Rattle.mpt_trace.proofs.WordsRead.{IsFree, free-decimal, free-encode, line_table}
 

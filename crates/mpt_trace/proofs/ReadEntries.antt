@@ -1,9 +1,8 @@
 -- Entries are read back.
-use Rattle.std.proofs.Common.{◌≡◌, ℕ, ◌+◌, ◌-◌, ◌^◌, ◌<◌, Bool, true, false, ◌==◌, ◌&&◌, if◌then◌else◌, Option, Some, None, option_map, List, [], ◌∷◌, ◌++◌, length, take, codes, decimal, refl, ap, sym, ◌∙◌, arith, length-append}
+use Rattle.std.proofs.Common.{◌≡◌, ℕ, ◌-◌, ◌^◌, ◌<◌, false, if◌then◌else◌, Some, option_map, List, ◌∷◌, ◌++◌, length, take, codes, decimal, refl, ap, sym, ◌∙◌, arith, length-append}
 use Rattle.std.proofs.Math.Bool.{and-false}
 use Rattle.std.proofs.Math.Seq.{take-append_seam}
-use Rattle.hex.specs.Hex.{encode_lower, encode_with}
-use Rattle.mpt_text.specs.Words.{hex_number}
+use Rattle.hex.specs.Hex.{encode_with}
 use Rattle.mpt_trace.specs.declared.entry.Entry.{Entry}
 use Rattle.mpt_trace.specs.declared.entry.Entry.TheVariants as entry
 use Rattle.mpt_trace.specs.declared.item.Item.{Item}
@@ -18,10 +17,9 @@ use Rattle.mpt_trace.specs.declared.refusal.RefusedCall.{RefusedCall}
 use Rattle.mpt_trace.specs.declared.refusal.RefusedCall.TheVariants as call
 use Rattle.mpt_trace.specs.Numbers.{address_text, handle_text, line_end}
 use Rattle.mpt_trace.specs.Items.{cause_text}
-use Rattle.mpt_trace.specs.Entries.{abort_text, call_text, entry_line, target_text, words_of_entry}
-use Rattle.mpt_trace.specs.Reading.{IsNumber, hexadecimal, is_word, number, words}
-use Rattle.mpt_trace.specs.ReadingItems.{cause_in}
-use Rattle.mpt_trace.specs.ReadingEntries.{IsCall, IsEntry, IsTargetOutcome, IsToldApart, ReadsBack, abort_end_in, abort_outcome_in, entry_in, entry_read, refuse_in, refused_at_in, target_end_in, target_outcome_in, unbind_in}
+use Rattle.mpt_trace.specs.Entries.{abort_text, call_text, target_text, words_of_entry}
+use Rattle.mpt_trace.specs.Reading.{hexadecimal, is_word, number, words}
+use Rattle.mpt_trace.specs.ReadingEntries.{IsCall, IsEntry, IsTargetOutcome, IsToldApart, ReadsBack, abort_outcome_in, entry_in, entry_read, refuse_in, refused_at_in, target_outcome_in}
 use Rattle.mpt_trace.proofs.WordsRead.{first, hex_back, last, number-decimal, pair, triple, word-decimal, word-hex}
 use Rattle.mpt_trace.proofs.ReadSchedule.{choice_back, input_back}
 use Rattle.mpt_trace.proofs.ReadItems.{answer_back, cause_back, moved_back, refused_back}

@@ -1,5 +1,5 @@
 -- Items are read back.
-use Rattle.std.proofs.Common.{◌≡◌, ℕ, ◌^◌, ◌<◌, Bool, true, false, ◌==◌, ◌&&◌, if◌then◌else◌, Option, Some, None, option_map, List, [], ◌∷◌, ◌++◌, length, codes, decimal, refl, ap, ◌∙◌, arith}
+use Rattle.std.proofs.Common.{◌≡◌, ℕ, ◌^◌, ◌<◌, true, false, Some, option_map, List, [], ◌∷◌, ◌++◌, length, codes, decimal, refl, ap, ◌∙◌, arith}
 use Rattle.std.proofs.lemmas.Fmt.{decimal_is_IsNumeral}
 use Rattle.hex.specs.Hex.{encode_lower}
 use Rattle.mpt_text.specs.Words.{bytes_text, hex_number}
@@ -25,13 +25,10 @@ use Rattle.mpt_trace.specs.declared.outcome.Outcome.{Outcome}
 use Rattle.mpt_trace.specs.declared.outcome.Outcome.TheVariants as outcome
 use Rattle.mpt_trace.specs.declared.refusal.Refusal.{Refusal}
 use Rattle.mpt_trace.specs.declared.refusal.Refusal.TheVariants as refusal
-use Rattle.mpt_trace.specs.declared.input.Input.{Input}
 use Rattle.mpt_trace.specs.declared.input.Input.TheVariants as input
 use Rattle.mpt_trace.specs.Numbers.{address_text, byte_text, descriptor_text, place_text}
-use Rattle.mpt_trace.specs.Schedule.{command_text, input_line}
-use Rattle.mpt_trace.specs.Items.{answer_text, ask_text, back_text, cause_text, down_text, frame_text, item_text, lane_text, out_text, outcome_text, result_text, task_text, tell_text, up_text}
-use Rattle.mpt_trace.specs.Reading.{IsNumber, hexadecimal, number, onto, words}
-use Rattle.mpt_trace.specs.ReadingSchedule.{IsInput, input_in}
+use Rattle.mpt_trace.specs.Items.{ask_text, back_text, cause_text, down_text, frame_text, item_text, lane_text, out_text, outcome_text, result_text, task_text, tell_text, up_text}
+use Rattle.mpt_trace.specs.Reading.{IsNumber, number, onto, words}
 use Rattle.mpt_trace.specs.ReadingItems.{IsAsk, IsBack, IsDown, IsItem, IsLane, IsOfLane, IsOut, IsOutcome, IsResult, IsTask, IsTell, IsUp, answer_in, ask_in, asked_in, back_in, cause_in, down_in, moved_in, out_in, outcome_in, refused_in, result_in, task_in, tell_in, told_in, up_in, up_lane}
 use Rattle.mpt_trace.proofs.WordsRead.{bytes_back, descriptor_back, digits_back, first, frame_back, hex_back, last, number-decimal, pair, split, three, triple, two, word-bytes, word-decimal, word-descriptor, word-encode, word-frame, word-hex}
 use Rattle.mpt_trace.proofs.ReadSchedule.{input_back}

@@ -1,5 +1,5 @@
 -- The lines of a schedule are read back.
-use Rattle.std.proofs.Common.{◌≡◌, ℕ, ◌^◌, ◌<◌, Option, Some, None, option_map, List, [], ◌∷◌, ◌++◌, codes, decimal, refl, ap, ◌∙◌}
+use Rattle.std.proofs.Common.{◌≡◌, Some, option_map, ◌∷◌, ◌++◌, codes, decimal, refl, ap, ◌∙◌}
 use Rattle.hex.specs.Hex.{encode_lower}
 use Rattle.mpt_trace.specs.declared.command_form.CommandForm.{CommandForm}
 use Rattle.mpt_trace.specs.declared.command_form.CommandForm.TheVariants as form
@@ -9,7 +9,7 @@ use Rattle.mpt_trace.specs.declared.choice.Choice.{Choice}
 use Rattle.mpt_trace.specs.declared.choice.Choice.TheVariants as choice
 use Rattle.mpt_trace.specs.Numbers.{address_text, byte_text}
 use Rattle.mpt_trace.specs.Schedule.{choice_line, command_text, input_line}
-use Rattle.mpt_trace.specs.Reading.{IsNumber, hexadecimal, number, words}
+use Rattle.mpt_trace.specs.Reading.{hexadecimal, number, words}
 use Rattle.mpt_trace.specs.ReadingSchedule.{IsChoice, IsCommand, IsInput, choice_in, command_in, input_in}
 use Rattle.mpt_trace.proofs.WordsRead.{digits_back, first, hex_back, last, number-decimal, pair, triple, two, word-decimal, word-encode, word-hex}
 

@@ -1,5 +1,5 @@
 -- Lines read back: what a line of a trace says, by its words.
-use Rattle.std.specs.Prelude.{ℕ, ◌^◌, ◌<◌, ◌==◌, ◌&&◌, ◌-◌, Bool, true, false, if◌then◌else◌, Option, Some, None, option_map, Result, Ok, Err, List, [], ◌∷◌, ◌++◌, codes, drop, take, length, replicate}
+use Rattle.std.specs.Prelude.{ℕ, ◌^◌, ◌<◌, ◌==◌, ◌&&◌, Bool, true, false, if◌then◌else◌, Option, Some, None, Result, Ok, Err, List, [], ◌∷◌, codes, length, replicate}
 use Rattle.std.specs.Str.Parse.{digits_value}
 use Rattle.byteorder.specs.Endian.{big_number, little_number}
 use Rattle.hex.specs.Hex.{IsBytes, decode_of}

@@ -1,6 +1,8 @@
-//! The line of an entry says the entry.
+//! What the texts and the commands promise together.
+ghost use Rattle.mpt_trace.specs.Command.{FitsItsCdb, NamesItsLength};
 ghost use Rattle.mpt_trace.specs.ReadingEntries.{AreToldApart, IsToldApart, ReadsBack};
 
+use crate::command_form::CommandForm;
 use crate::entry::Entry;
 
 /// Reading an entry's line gives the entry, where its item, if it has one, is of its lane's kind.
@@ -17,4 +19,10 @@ pub fn lines_tell_apart(one: &Entry, other: &Entry)
 /// kinds.
 pub fn lines_tell_traces_apart(one: &[Entry], other: &[Entry])
     ensures { AreToldApart one.now other.now }
+{}
+
+/// The length of the command that a form names is the one that a disk reads from its CDB
+/// (`scsi_disk::length_of`). A form by its bytes names any length.
+pub fn cdb_names_the_length(form: &CommandForm)
+    ensures { FitsItsCdb form.now → NamesItsLength form.now }
 {}

@@ -41,7 +41,7 @@ pub use host_state::HostState;
 pub use input::Input;
 pub use item::{Ask, Back, Down, Item, Out, Tell, Up};
 pub use lane::LaneName;
-pub use laws::{line_reads_back, lines_tell_apart, lines_tell_traces_apart};
+pub use laws::{cdb_names_the_length, line_reads_back, lines_tell_apart, lines_tell_traces_apart};
 pub use mpt_text::OutOfMemory;
 pub use names::{Address, Handle, Smid, Tag};
 pub use numbers::{push_address, push_byte, push_descriptor, push_handle, push_place};
