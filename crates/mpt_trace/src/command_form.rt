@@ -1,0 +1,55 @@
+//! The commands that a schedule can name.
+use scsi_disk::Cdb;
+
+/// A command by its parameters (SBC-3, SPC-4), or by its bytes.
+#[derive(Drop)]
+pub enum CommandForm {
+    /// TEST UNIT READY.
+    Tur,
+    /// INQUIRY.
+    Inquiry {
+        /// The ALLOCATION LENGTH, in bytes.
+        len: u16,
+    },
+    /// READ CAPACITY(10).
+    Capacity,
+    /// READ(10).
+    Read {
+        /// The LOGICAL BLOCK ADDRESS.
+        lba: u32,
+        /// The TRANSFER LENGTH, in blocks of 512 bytes.
+        blocks: u16,
+    },
+    /// WRITE(10).
+    Write {
+        /// The LOGICAL BLOCK ADDRESS.
+        lba: u32,
+        /// The TRANSFER LENGTH, in blocks of 512 bytes.
+        blocks: u16,
+        /// Each byte of the data.
+        fill: u8,
+    },
+    /// READ(16).
+    Read16 {
+        /// The LOGICAL BLOCK ADDRESS.
+        lba: u64,
+        /// The TRANSFER LENGTH, in blocks of 512 bytes.
+        blocks: u16,
+    },
+    /// WRITE(16).
+    Write16 {
+        /// The LOGICAL BLOCK ADDRESS.
+        lba: u64,
+        /// The TRANSFER LENGTH, in blocks of 512 bytes.
+        blocks: u16,
+        /// Each byte of the data.
+        fill: u8,
+    },
+    /// Any command descriptor block, without data for the disk.
+    Raw {
+        /// The command descriptor block.
+        cdb: Cdb,
+        /// The number of bytes that are moved at most.
+        len: u32,
+    },
+}
