@@ -1,0 +1,6 @@
+-- What the contracts of schedules and plans say.
+pub mod Causes
+pub mod Hexadecimal
+pub mod Left
+pub mod Words
+pub mod Numbers
