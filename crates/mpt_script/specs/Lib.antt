@@ -1,6 +1,8 @@
 -- What the contracts of schedules and plans say.
 pub mod Causes
+pub mod Commands
 pub mod Hexadecimal
 pub mod Left
 pub mod Words
 pub mod Numbers
+pub mod Statements

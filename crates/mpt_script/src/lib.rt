@@ -4,10 +4,12 @@
 //! several parts of a session follow side by side.
 #![tactic(auto)]
 
+mod command;
 mod fault;
 mod hexadecimal;
 mod numbers;
 mod pieces;
+mod statement;
 
 pub use fault::{Cause, ScriptFault};
 pub use hexadecimal::read_hex;

@@ -1,5 +1,5 @@
 //! The pieces of a text between separators: the lines of a text, the words of a line.
-ghost use Rattle.std.specs.Prelude.{◌≡◌, [], ◌∷◌, MatchOption, MatchResult, IfSome, ◌<◌, ◌==◌, length};
+ghost use Rattle.std.specs.Prelude.{◌≡◌, bytes_eq, [], ◌∷◌, MatchOption, MatchResult, IfSome, ◌<◌, ◌==◌, length};
 ghost use Rattle.std.specs.List.{position_from};
 ghost use Rattle.mpt_script.specs.Words.{nothing, one, pieces, three, two};
 
@@ -102,4 +102,11 @@ fn place_of(separator: u8, text: &[u8]) -> Option<usize>
     ensures within { IfSome result (λ at. at < length text.now) }
 {
     text.iter().position(|byte| *byte == separator)
+}
+
+/// Whether a word is this one.
+pub(crate) fn is_word(word: &[u8], name: &[u8]) -> bool
+    ensures { result ≡ bytes_eq word.now name.now }
+{
+    word == name
 }
