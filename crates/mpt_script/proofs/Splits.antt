@@ -1,7 +1,7 @@
 -- Taking the first piece off.
-use Rattle.std.proofs.Common.{◌≡◌, ℕ, ◌+◌, ◌==◌, Bool, true, false, cond, List, [], ◌∷◌, take, drop, length, Option, Some, None, refl, sym, ◌∙◌, ap, arith, nat_lt, ◌<◌, ◌-◌, Bor}
+use Rattle.std.proofs.Common.{◌≡◌, ℕ, ◌+◌, ◌==◌, Bool, true, false, cond, List, [], ◌∷◌, take, drop, length, Option, Some, None, refl, sym, ◌∙◌, ap, arith, nat_lt, ◌<◌, ◌-◌, Bor, is_some, not, count_by}
 use Rattle.std.specs.List.{position_from, position, position_or_len, slice_split}
-use Rattle.std.proofs.lemmas.List.Splits.{slice_split_first}
+use Rattle.std.proofs.lemmas.List.Splits.{slice_split_first, length-slice_split}
 use Rattle.std.proofs.lemmas.Iterator.Adapters.{position_from-zero}
 use Rattle.std.proofs.lemmas.Grind.{common_steps}
 use Rattle.mpt_script.specs.Words.{pieces}
@@ -39,3 +39,10 @@ left_of c rest text whole e is = sym e ∙ ap (pieces_left c) is
 -- a range to the end
 pub to_the_end : (n : ℕ) (xs : List ℕ) → take (length xs - n) (drop n xs) ≡ drop n xs
 to_the_end n xs = grind (arith, common_steps)
+
+-- no piece is left exactly where nothing of the text is
+pub empty_left : (c : ℕ) (rest : Option (Bor (List ℕ))) (left : List (List ℕ)) (none : Bool) → pieces_left c rest ≡ left → is_some rest ≡ not none → none ≡ (length left == 0)
+empty_left c None left none e is = rw (← e) (grind (arith, common_steps))
+empty_left c (Some text) left none e is =
+    let some : length (pieces_left c (Some text)) ≡ count_by (λ byte. byte == c) text.now + 1 = length-slice_split (λ byte. byte == c) text.now in
+    rw (← e) (rw some (grind (arith, common_steps)))

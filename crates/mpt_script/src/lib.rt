@@ -6,11 +6,17 @@
 
 mod command;
 mod fault;
+mod declared;
 mod hexadecimal;
+mod line;
 mod numbers;
 mod pieces;
+mod schedule;
+mod stage;
 mod statement;
 
 pub use fault::{Cause, ScriptFault};
 pub use hexadecimal::read_hex;
+pub use line::Line;
 pub use mpt_text::OutOfMemory;
+pub use schedule::{Schedule, read_schedule};

@@ -52,6 +52,13 @@ impl<'a> Pieces<'a> {
         }
     }
 
+    /// Whether no piece is left.
+    pub fn is_empty(&self) -> bool
+        ensures { result ≡ (length self.now == 0) }
+    {
+        self.rest.is_none()
+    }
+
     /// Checks that no piece is left.
     pub fn none(mut self) -> Result<(), Cause>
         ensures { result ≡ nothing self.entry }
