@@ -1,5 +1,9 @@
 //! The commands that a schedule can name.
+ghost use Rattle.std.specs.Prelude.{◌≡◌};
+
+use mpt_text::OutOfMemory;
 use scsi_disk::Cdb;
+use std::alloc::Global;
 
 /// A command by its parameters (SBC-3, SPC-4), or by its bytes.
 #[derive(Drop)]
@@ -52,4 +56,39 @@ pub enum CommandForm {
         /// The number of bytes that are moved at most.
         len: u32,
     },
+}
+
+impl CommandForm {
+    /// An equal value. It takes no memory, so it always answers Ok.
+    pub fn copy(&self, _alloc: Global) -> Result<CommandForm, OutOfMemory>
+        ensures { result ≡ Ok self.now }
+    {
+        Ok(match self {
+            CommandForm::Tur => CommandForm::Tur,
+            CommandForm::Inquiry { len } => CommandForm::Inquiry { len: *len },
+            CommandForm::Capacity => CommandForm::Capacity,
+            CommandForm::Read { lba, blocks } => CommandForm::Read {
+                lba: *lba,
+                blocks: *blocks,
+            },
+            CommandForm::Write { lba, blocks, fill } => CommandForm::Write {
+                lba: *lba,
+                blocks: *blocks,
+                fill: *fill,
+            },
+            CommandForm::Read16 { lba, blocks } => CommandForm::Read16 {
+                lba: *lba,
+                blocks: *blocks,
+            },
+            CommandForm::Write16 { lba, blocks, fill } => CommandForm::Write16 {
+                lba: *lba,
+                blocks: *blocks,
+                fill: *fill,
+            },
+            CommandForm::Raw { cdb, len } => CommandForm::Raw {
+                cdb: cdb.copy(),
+                len: *len,
+            },
+        })
+    }
 }

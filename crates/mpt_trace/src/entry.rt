@@ -1,4 +1,6 @@
 //! The entries of a trace.
+ghost use Rattle.std.specs.Prelude.{◌≡◌, IfOk};
+
 use crate::choice::Choice;
 use crate::input::Input;
 use crate::item::Item;
@@ -6,6 +8,8 @@ use crate::lane::LaneName;
 use crate::names::{Address, Handle, Smid, Tag};
 use crate::outcome::{AbortOutcome, Outcome, TargetOutcome};
 use crate::refusal::{Refusal, RefusedCall};
+use mpt_text::OutOfMemory;
+use std::alloc::Global;
 
 /// One entry of a trace.
 #[derive(Drop)]
@@ -113,4 +117,74 @@ pub enum Entry {
     },
     /// The host's reset of the controller was done.
     ResetDone,
+}
+
+impl Entry {
+    /// An equal entry, or OutOfMemory.
+    pub fn copy(&self, alloc: Global) -> Result<Entry, OutOfMemory>
+        ensures { IfOk result (λ entry. entry ≡ self.now) }
+    {
+        Ok(match self {
+            Entry::Given(input) => Entry::Given(input.copy(alloc)?),
+            Entry::Idle(choice) => Entry::Idle(*choice),
+            Entry::Put { lane, item } => Entry::Put {
+                lane: *lane,
+                item: item.copy(alloc)?,
+            },
+            Entry::Take { lane, item } => Entry::Take {
+                lane: *lane,
+                item: item.copy(alloc)?,
+            },
+            Entry::Bind {
+                handle,
+                address,
+                plug,
+            } => Entry::Bind {
+                handle: *handle,
+                address: *address,
+                plug: *plug,
+            },
+            Entry::Unbind { handle } => Entry::Unbind { handle: *handle },
+            Entry::UnbindAll => Entry::UnbindAll,
+            Entry::Run { address, tag } => Entry::Run {
+                address: *address,
+                tag: *tag,
+            },
+            Entry::HostUp => Entry::HostUp,
+            Entry::Ready { address, handle } => Entry::Ready {
+                address: *address,
+                handle: *handle,
+            },
+            Entry::Lost { address, handle } => Entry::Lost {
+                address: *address,
+                handle: *handle,
+            },
+            Entry::Accept { n, address, smid } => Entry::Accept {
+                n: *n,
+                address: *address,
+                smid: *smid,
+            },
+            Entry::RefuseSubmit { n, cause } => Entry::RefuseSubmit {
+                n: *n,
+                cause: *cause,
+            },
+            Entry::Refuse { call, cause } => Entry::Refuse {
+                call: *call,
+                cause: *cause,
+            },
+            Entry::Answer { n, outcome } => Entry::Answer {
+                n: *n,
+                outcome: outcome.copy(alloc)?,
+            },
+            Entry::AbortEnd { n, outcome } => Entry::AbortEnd {
+                n: *n,
+                outcome: *outcome,
+            },
+            Entry::TargetEnd { address, outcome } => Entry::TargetEnd {
+                address: *address,
+                outcome: *outcome,
+            },
+            Entry::ResetDone => Entry::ResetDone,
+        })
+    }
 }

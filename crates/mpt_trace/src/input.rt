@@ -1,6 +1,10 @@
 //! What comes from outside.
+ghost use Rattle.std.specs.Prelude.{◌≡◌};
+
 use crate::command_form::CommandForm;
 use crate::names::Address;
+use mpt_text::OutOfMemory;
+use std::alloc::Global;
 
 /// An input to the host or to the fabric.
 #[derive(Drop)]
@@ -44,4 +48,34 @@ pub enum Input {
         /// The disk's SAS address.
         address: Address,
     },
+}
+
+impl Input {
+    /// An equal value. It takes no memory, so it always answers Ok.
+    pub fn copy(&self, alloc: Global) -> Result<Input, OutOfMemory>
+        ensures { result ≡ Ok self.now }
+    {
+        Ok(match self {
+            Input::Start => Input::Start,
+            Input::Submit { n, address, form } => Input::Submit {
+                n: *n,
+                address: *address,
+                form: form.copy(alloc)?,
+            },
+            Input::Abort { n } => Input::Abort { n: *n },
+            Input::TargetReset { address } => Input::TargetReset { address: *address },
+            Input::Reset => Input::Reset,
+            Input::UnitReset => Input::UnitReset,
+            Input::Plug {
+                address,
+                expander,
+                phy,
+            } => Input::Plug {
+                address: *address,
+                expander: *expander,
+                phy: *phy,
+            },
+            Input::Unplug { address } => Input::Unplug { address: *address },
+        })
+    }
 }

@@ -1,9 +1,13 @@
 //! What the lanes carry.
+ghost use Rattle.std.specs.Prelude.{◌≡◌, IfOk};
+
 use crate::input::Input;
 use crate::names::{Address, Smid, Tag};
-use crate::outcome::Outcome;
+use crate::outcome::{Outcome, copy_result};
 use crate::refusal::Refusal;
+use mpt_text::OutOfMemory;
 use scsi_disk::{Bytes, Command, ScsiResult};
+use std::alloc::Global;
 
 /// What the host puts for the controller.
 #[derive(Drop)]
@@ -214,4 +218,198 @@ pub enum Item {
     Ask(Ask),
     /// An item of a lane tell.
     Tell(Tell),
+}
+
+impl Down {
+    /// An equal item, or OutOfMemory.
+    pub fn copy(&self, alloc: Global) -> Result<Down, OutOfMemory>
+        ensures { IfOk result (λ item. item ≡ self.now) }
+    {
+        match self {
+            Down::Write { reg, value } => Ok(Down::Write {
+                reg: *reg,
+                value: *value,
+            }),
+            Down::Read { reg } => Ok(Down::Read { reg: *reg }),
+            Down::Post {
+                descriptor,
+                frame,
+                payload,
+            } => {
+                let payload = payload.copy(alloc)?;
+                Ok(Down::Post {
+                    descriptor: *descriptor,
+                    frame: *frame,
+                    payload,
+                })
+            }
+            Down::Return { address, index } => Ok(Down::Return {
+                address: *address,
+                index: *index,
+            }),
+            Down::Stop => Ok(Down::Stop),
+        }
+    }
+}
+
+impl Up {
+    /// An equal item, or OutOfMemory.
+    pub fn copy(&self, alloc: Global) -> Result<Up, OutOfMemory>
+        ensures { IfOk result (λ item. item ≡ self.now) }
+    {
+        match self {
+            Up::Value(value) => Ok(Up::Value(*value)),
+            Up::Reply {
+                descriptor,
+                frame,
+                page,
+                sense,
+            } => {
+                let page = page.copy(alloc)?;
+                let sense = sense.copy(alloc)?;
+                Ok(Up::Reply {
+                    descriptor: *descriptor,
+                    frame: *frame,
+                    page,
+                    sense,
+                })
+            }
+            Up::Mark { generation } => Ok(Up::Mark {
+                generation: *generation,
+            }),
+            Up::Calm => Ok(Up::Calm),
+        }
+    }
+}
+
+impl Out {
+    /// An equal item, or OutOfMemory.
+    pub fn copy(&self, alloc: Global) -> Result<Out, OutOfMemory>
+        ensures { IfOk result (λ item. item ≡ self.now) }
+    {
+        match self {
+            Out::Task {
+                tag,
+                address,
+                command,
+            } => {
+                let command = command.copy(alloc)?;
+                Ok(Out::Task {
+                    tag: *tag,
+                    address: *address,
+                    command,
+                })
+            }
+            Out::Abort { smid, task } => Ok(Out::Abort {
+                smid: *smid,
+                task: *task,
+            }),
+            Out::TargetReset { smid, address } => Ok(Out::TargetReset {
+                smid: *smid,
+                address: *address,
+            }),
+            Out::Discover => Ok(Out::Discover),
+            Out::Link { generation } => Ok(Out::Link {
+                generation: *generation,
+            }),
+            Out::Stop => Ok(Out::Stop),
+        }
+    }
+}
+
+impl Back {
+    /// An equal item, or OutOfMemory.
+    pub fn copy(&self, alloc: Global) -> Result<Back, OutOfMemory>
+        ensures { IfOk result (λ item. item ≡ self.now) }
+    {
+        match self {
+            Back::Result { tag, result } => {
+                let result = copy_result(result, alloc)?;
+                Ok(Back::Result { tag: *tag, result })
+            }
+            Back::Gone { tag } => Ok(Back::Gone { tag: *tag }),
+            Back::Terminated { tag } => Ok(Back::Terminated { tag: *tag }),
+            Back::Aborted { smid, found } => Ok(Back::Aborted {
+                smid: *smid,
+                found: *found,
+            }),
+            Back::Cleared { smid, count } => Ok(Back::Cleared {
+                smid: *smid,
+                count: *count,
+            }),
+            Back::Plugged {
+                address,
+                plug,
+                expander,
+                phy,
+            } => Ok(Back::Plugged {
+                address: *address,
+                plug: *plug,
+                expander: *expander,
+                phy: *phy,
+            }),
+            Back::Unplugged {
+                address,
+                plug,
+                expander,
+                phy,
+            } => Ok(Back::Unplugged {
+                address: *address,
+                plug: *plug,
+                expander: *expander,
+                phy: *phy,
+            }),
+            Back::Discovered => Ok(Back::Discovered),
+            Back::Linked { generation } => Ok(Back::Linked {
+                generation: *generation,
+            }),
+            Back::Calm => Ok(Back::Calm),
+        }
+    }
+}
+
+impl Ask {
+    /// An equal item. It takes no memory, so it always answers Ok.
+    pub fn copy(&self, alloc: Global) -> Result<Ask, OutOfMemory>
+        ensures { result ≡ Ok self.now }
+    {
+        match self {
+            Ask::Line(line) => Ok(Ask::Line(line.copy(alloc)?)),
+            Ask::Bye => Ok(Ask::Bye),
+        }
+    }
+}
+
+impl Tell {
+    /// An equal item, or OutOfMemory.
+    pub fn copy(&self, alloc: Global) -> Result<Tell, OutOfMemory>
+        ensures { IfOk result (λ item. item ≡ self.now) }
+    {
+        match self {
+            Tell::Answer { n, outcome } => {
+                let outcome = outcome.copy(alloc)?;
+                Ok(Tell::Answer { n: *n, outcome })
+            }
+            Tell::RefuseSubmit { n, cause } => Ok(Tell::RefuseSubmit {
+                n: *n,
+                cause: *cause,
+            }),
+        }
+    }
+}
+
+impl Item {
+    /// An equal item, or OutOfMemory.
+    pub fn copy(&self, alloc: Global) -> Result<Item, OutOfMemory>
+        ensures { IfOk result (λ item. item ≡ self.now) }
+    {
+        match self {
+            Item::Down(item) => Ok(Item::Down(item.copy(alloc)?)),
+            Item::Up(item) => Ok(Item::Up(item.copy(alloc)?)),
+            Item::Out(item) => Ok(Item::Out(item.copy(alloc)?)),
+            Item::Back(item) => Ok(Item::Back(item.copy(alloc)?)),
+            Item::Ask(item) => Ok(Item::Ask(item.copy(alloc)?)),
+            Item::Tell(item) => Ok(Item::Tell(item.copy(alloc)?)),
+        }
+    }
 }
