@@ -1,3 +1,2 @@
-pub mod Splits
-pub mod Room
 pub mod Reading
+pub mod Room

@@ -2,8 +2,8 @@
 use Rattle.std.proofs.Common.{◌≡◌, ℕ, ◌==◌, true, false, List, [], ◌∷◌, ◌++◌, length, Option, Some, None, Result, Ok, Err, refl, sym, ◌∙◌, ap, append_assoc, append-nil, arith}
 use Rattle.std.proofs.lemmas.Grind.{common_steps}
 use Rattle.std.specs.Option.{option_to_list}
-use Rattle.mpt_script.specs.declared.fault.Cause.{Cause}
-use Rattle.mpt_script.specs.declared.fault.Cause.TheVariants.{Unended}
+use Rattle.mpt_lines.specs.declared.fault.Cause.{Cause}
+use Rattle.mpt_lines.specs.declared.fault.Cause.TheVariants.{Unended}
 use Rattle.mpt_script.specs.declared.line.Line.{Line}
 use Rattle.mpt_script.specs.Declarations.{Declared}
 use Rattle.mpt_script.specs.Schedules.{Fault, after_said, before, line_value, next_number, schedule_from}

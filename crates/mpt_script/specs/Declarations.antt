@@ -7,14 +7,14 @@ use Rattle.mpt_trace.specs.declared.command_form.CommandForm.{CommandForm}
 use Rattle.mpt_trace.specs.declared.command_form.CommandForm.TheVariants.{Tur, Inquiry, Capacity, Read, Write, Read16, Write16, Raw}
 use Rattle.mpt_trace.specs.declared.input.Input.{Input}
 use Rattle.mpt_trace.specs.declared.input.Input.TheVariants as input
-use Rattle.mpt_script.specs.declared.fault.Cause.{Cause}
-use Rattle.mpt_script.specs.declared.fault.Cause.TheVariants.{Order, Again, Many, Name}
+use Rattle.mpt_lines.specs.declared.fault.Cause.{Cause}
+use Rattle.mpt_lines.specs.declared.fault.Cause.TheVariants.{Order, Again, Many, Name}
 use Rattle.mpt_script.specs.declared.line.Line.{Line}
 use Rattle.mpt_script.specs.declared.line.Line.TheVariants as line
 use Rattle.mpt_script.specs.declared.stage.Stage.{Stage}
 use Rattle.mpt_script.specs.declared.stage.Stage.TheVariants.{First, Declarations, Steps}
-use Rattle.mpt_script.specs.declared.statement.Statement.{Statement}
-use Rattle.mpt_script.specs.declared.statement.Statement.TheVariants as statement
+use Rattle.mpt_lines.specs.declared.statement.Statement.{Statement}
+use Rattle.mpt_lines.specs.declared.statement.Statement.TheVariants as statement
 
 -- where the text is, the number of reply post queues, the disks' addresses and the expanders' numbers
 -- of phys in their order, how many resets were asked, and the sum of the lengths of the submissions

@@ -1,10 +1,7 @@
 -- What the contracts of schedules and plans say.
-pub mod Causes
-pub mod Commands
+pub use Rattle.mpt_lines.specs.Causes
+pub use Rattle.mpt_lines.specs.Statements
+pub use Rattle.mpt_lines.specs.Words
 pub mod Declarations
 pub mod Hexadecimal
-pub mod Left
-pub mod Words
-pub mod Numbers
-pub mod Statements
 pub mod Schedules

@@ -1,15 +1,15 @@
 -- The text of a schedule: the lines that it stands for, or its first faulty line and that line's first
 -- cause.
 use Rattle.std.specs.Prelude.{ℕ, ◌+◌, ◌==◌, ◌||◌, ◌≡◌, min, Bool, if◌then◌else◌, List, [], ◌∷◌, ◌++◌, length, slice_index, Option, Some, None, Result, Ok, Err, ⊤}
-use Rattle.mpt_script.specs.declared.fault.Cause.{Cause}
-use Rattle.mpt_script.specs.declared.fault.Cause.TheVariants.{Unended}
-use Rattle.mpt_script.specs.declared.fault.ScriptFault.{ScriptFault}
-use Rattle.mpt_script.specs.declared.fault.ScriptFault.TheVariants as fault
+use Rattle.mpt_lines.specs.declared.fault.Cause.{Cause}
+use Rattle.mpt_lines.specs.declared.fault.Cause.TheVariants.{Unended}
+use Rattle.mpt_lines.specs.declared.fault.ScriptFault.{ScriptFault}
+use Rattle.mpt_lines.specs.declared.fault.ScriptFault.TheVariants as fault
 use Rattle.mpt_script.specs.declared.line.Line.{Line}
 use Rattle.mpt_script.specs.Declarations.{Declared, after, judged, nothing_declared}
-use Rattle.mpt_script.specs.Numbers.{◌>>=◌}
-use Rattle.mpt_script.specs.Statements.{schedule_line}
-use Rattle.mpt_script.specs.Words.{lines, words}
+use Rattle.mpt_lines.specs.Numbers.{◌>>=◌}
+use Rattle.mpt_lines.specs.Statements.{schedule_line}
+use Rattle.mpt_lines.specs.Words.{lines, words}
 
 -- an empty line, or one that begins with `#`
 abbrev pub says_nothing : List ℕ → Bool

@@ -3,10 +3,10 @@ ghost use Rattle.std.specs.Prelude.{◌≡◌, ◌+◌, ◌<◌, ◌≤◌, ◌=
 ghost use Rattle.std.specs.List.{list_any};
 ghost use Rattle.mpt_script.specs.Declarations as spec;
 
-use crate::fault::Cause;
+use mpt_lines::Cause;
 use crate::line::Line;
 use crate::stage::Stage;
-use crate::statement::Statement;
+use mpt_lines::Statement;
 use mpt_text::OutOfMemory;
 use mpt_trace::{Address, Choice, CommandForm, Input};
 use std::alloc::Global;

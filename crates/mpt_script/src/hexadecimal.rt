@@ -1,9 +1,9 @@
 //! Bytes written as hexadecimal digits.
 ghost use Rattle.std.specs.Prelude.{◌≡◌, ◌⊎◌, not, filter, IfOk, IfErr};
 ghost use Rattle.mpt_script.specs.Hexadecimal.{is_white, hexadecimal, bytes_of_digits};
-ghost use Rattle.mpt_script.specs.declared.fault.Cause.TheVariants as cause;
+ghost use Rattle.mpt_lines.specs.declared.fault.Cause.TheVariants as cause;
 
-use crate::fault::{Cause, ScriptFault};
+use mpt_lines::{Cause, ScriptFault};
 use hex::FromHexError;
 use mpt_text::OutOfMemory;
 use std::alloc::Global;

@@ -4,19 +4,14 @@
 //! several parts of a session follow side by side.
 #![tactic(auto)]
 
-mod command;
-mod fault;
 mod declared;
 mod hexadecimal;
 mod line;
-mod numbers;
-mod pieces;
 mod schedule;
 mod stage;
-mod statement;
 
-pub use fault::{Cause, ScriptFault};
 pub use hexadecimal::read_hex;
 pub use line::Line;
+pub use mpt_lines::{Cause, ScriptFault};
 pub use mpt_text::OutOfMemory;
 pub use schedule::{Schedule, read_schedule};

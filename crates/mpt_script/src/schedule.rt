@@ -5,10 +5,10 @@ ghost use Rattle.mpt_script.specs.Schedules.{after_said, line_value, schedule_of
 ghost use Rattle.mpt_script.specs.Declarations as spec;
 
 use crate::declared::Declared;
-use crate::fault::{Cause, ScriptFault};
+use mpt_lines::{Cause, ScriptFault};
 use crate::line::Line;
-use crate::pieces::Pieces;
-use crate::statement::schedule_line;
+use mpt_lines::Pieces;
+use mpt_lines::schedule_line;
 use mpt_text::OutOfMemory;
 use std::alloc::Global;
 use std::marker::Model;

@@ -1,6 +1,6 @@
 use Rattle.std.proofs.Common.{◌∙◌, sym, ◌+◌}
-use Rattle.mpt_script.proofs.Splits.{pieces_at, pieces_without, left_of, to_the_end}
-use Rattle.mpt_script.proofs.pieces.Pieces.take.Goals as goal
+use Rattle.mpt_lines.proofs.Splits.{pieces_at, pieces_without, left_of, to_the_end}
+use Rattle.mpt_lines.proofs.pieces.Pieces.take.Goals as goal
 
 pub returns-in-Some : goal.returns-in-Some
 returns-in-Some c =

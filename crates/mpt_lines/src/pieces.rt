@@ -1,7 +1,7 @@
 //! The pieces of a text between separators: the lines of a text, the words of a line.
 ghost use Rattle.std.specs.Prelude.{◌≡◌, bytes_eq, [], ◌∷◌, MatchOption, MatchResult, IfSome, ◌<◌, ◌==◌, length};
 ghost use Rattle.std.specs.List.{position_from};
-ghost use Rattle.mpt_script.specs.Words.{nothing, one, pieces, three, two};
+ghost use Rattle.mpt_lines.specs.Words.{nothing, one, pieces, three, two};
 
 use crate::fault::Cause;
 use std::marker::Model;
@@ -18,7 +18,7 @@ impl<'a> Model for Pieces<'a> {
 
     ghost Value = { List (List ℕ) };
 
-    ghost use Rattle.mpt_script.specs.Left.{pieces_left};
+    ghost use Rattle.mpt_lines.specs.Left.{pieces_left};
 
     ghost view = { λ p. pieces_left p.separator p.rest };
 }

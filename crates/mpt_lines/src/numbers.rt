@@ -1,7 +1,7 @@
 //! The words of a line that name a value, and the ranges of numbers.
 ghost use Rattle.std.specs.Prelude.{◌≡◌, ◌≤◌, ◌==◌, ◌/◌, ◌<◌, ◌^◌, IfOk, length};
 ghost use Rattle.std.specs.List.{list_all};
-ghost use Rattle.mpt_script.specs.Numbers.{address, byte, cdb, checked_bytes, is_decimal_digit, is_numeral, number, within};
+ghost use Rattle.mpt_lines.specs.Numbers.{address, byte, cdb, checked_bytes, is_decimal_digit, is_numeral, number, within};
 ghost use Rattle.hex.specs.Hex.{is_hex_digit};
 
 use crate::fault::Cause;

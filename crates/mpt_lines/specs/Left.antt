@@ -1,6 +1,6 @@
 -- The pieces that are left of a text.
 use Rattle.std.specs.Prelude.{ℕ, List, [], Option, Some, None}
-use Rattle.mpt_script.specs.Words.{pieces}
+use Rattle.mpt_lines.specs.Words.{pieces}
 use denote.Ref.{Bor}
 
 -- those of what is left of the text, if a separator stood before it

@@ -2,10 +2,10 @@
 use Rattle.std.specs.Prelude.{ℕ, ◌-◌, ◌^◌, List, [], ◌∷◌, Result, Ok, Err, bytes_eq, codes, if◌then◌else◌}
 use Rattle.mpt_trace.specs.declared.command_form.CommandForm.{CommandForm}
 use Rattle.mpt_trace.specs.declared.command_form.CommandForm.TheVariants.{Tur, Inquiry, Capacity, Read, Write, Read16, Write16, Raw}
-use Rattle.mpt_script.specs.declared.fault.Cause.{Cause}
-use Rattle.mpt_script.specs.declared.fault.Cause.TheVariants.{Form}
-use Rattle.mpt_script.specs.Numbers.{◌>>=◌, number, within, byte, cdb, checked_bytes}
-use Rattle.mpt_script.specs.Words.{nothing, one, two, three}
+use Rattle.mpt_lines.specs.declared.fault.Cause.{Cause}
+use Rattle.mpt_lines.specs.declared.fault.Cause.TheVariants.{Form}
+use Rattle.mpt_lines.specs.Numbers.{◌>>=◌, number, within, byte, cdb, checked_bytes}
+use Rattle.mpt_lines.specs.Words.{nothing, one, two, three}
 
 -- `tur`
 abbrev pub tur : List (List ℕ) → Result CommandForm Cause

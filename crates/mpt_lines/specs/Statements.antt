@@ -3,13 +3,15 @@ use Rattle.std.specs.Prelude.{ℕ, List, [], ◌∷◌, Option, Some, None, Resu
 use Rattle.mpt_trace.specs.declared.choice.Choice.{Choice}
 use Rattle.mpt_trace.specs.declared.choice.Choice.TheVariants as choice
 use Rattle.mpt_trace.specs.declared.input.Input.TheVariants as input
-use Rattle.mpt_script.specs.declared.fault.Cause.{Cause}
-use Rattle.mpt_script.specs.declared.fault.Cause.TheVariants.{Form}
-use Rattle.mpt_script.specs.declared.statement.Statement.{Statement}
-use Rattle.mpt_script.specs.declared.statement.Statement.TheVariants as statement
-use Rattle.mpt_script.specs.Numbers.{◌>>=◌, number, within, address}
-use Rattle.mpt_script.specs.Words.{nothing, one, two, three}
-use Rattle.mpt_script.specs.Commands.{command}
+use Rattle.mpt_lines.specs.declared.fault.Cause.{Cause}
+use Rattle.mpt_lines.specs.declared.fault.Cause.TheVariants.{Form}
+use Rattle.mpt_lines.specs.declared.statement.Statement.{Statement}
+use Rattle.mpt_lines.specs.declared.statement.Statement.TheVariants as statement
+use Rattle.mpt_lines.specs.declared.statement.PlanStatement.{PlanStatement}
+use Rattle.mpt_lines.specs.declared.statement.PlanStatement.TheVariants as plan
+use Rattle.mpt_lines.specs.Numbers.{◌>>=◌, number, within, address}
+use Rattle.mpt_lines.specs.Words.{nothing, one, two, three}
+use Rattle.mpt_lines.specs.Commands.{command}
 
 -- `queues <q>`
 abbrev pub queues : List (List ℕ) → Result Statement Cause
@@ -192,3 +194,38 @@ schedule_line (word ∷ others) =
     else if bytes_eq word (codes "unplug") then unplug others
     else if bytes_eq word (codes "drain") then drain others
     else step_line word others
+
+-- `submitter <i>`
+abbrev pub submitter : List (List ℕ) → Result PlanStatement Cause
+submitter words = do
+  word ← one words
+  i ← number word
+  Ok (plan.Submitter i)
+
+-- `fabric`
+abbrev pub fabric : List (List ℕ) → Result PlanStatement Cause
+fabric words = do
+  none ← nothing words
+  Ok plan.Fabric
+
+-- the lines of a plan that a schedule has too
+abbrev pub shared_line : List ℕ → List (List ℕ) → Result Statement Cause
+shared_line word others =
+    if bytes_eq word (codes "queues") then queues others
+    else if bytes_eq word (codes "disk") then disk others
+    else if bytes_eq word (codes "expander") then expander others
+    else if bytes_eq word (codes "plug") then plug others
+    else if bytes_eq word (codes "unplug") then unplug others
+    else if bytes_eq word (codes "reset") then reset others
+    else if bytes_eq word (codes "treset") then treset others
+    else if bytes_eq word (codes "submit") then submit others
+    else if bytes_eq word (codes "abort") then abort others
+    else Err Form
+
+-- a line of a plan by its words
+abbrev pub plan_line : List (List ℕ) → Result PlanStatement Cause
+plan_line [] = Err Form
+plan_line (word ∷ others) =
+    if bytes_eq word (codes "submitter") then submitter others
+    else if bytes_eq word (codes "fabric") then fabric others
+    else (shared_line word others >>= (λ said. Ok (plan.Line said)))

@@ -1,7 +1,7 @@
 -- The printed words of the causes.
 use Rattle.std.specs.Prelude.{ℕ, List, codes}
-use Rattle.mpt_script.specs.declared.fault.Cause.{Cause}
-use Rattle.mpt_script.specs.declared.fault.Cause.TheVariants.{Unended, Form, Range, Order, Again, Many, Name, Hex}
+use Rattle.mpt_lines.specs.declared.fault.Cause.{Cause}
+use Rattle.mpt_lines.specs.declared.fault.Cause.TheVariants.{Unended, Form, Range, Order, Again, Many, Name, Hex}
 
 -- the word that is printed for a cause
 abbrev pub cause_word : Cause → List ℕ

@@ -1,6 +1,6 @@
 //! The commands of a `submit` line, by their words.
 ghost use Rattle.std.specs.Prelude.{◌≡◌};
-ghost use Rattle.mpt_script.specs.Commands as spec;
+ghost use Rattle.mpt_lines.specs.Commands as spec;
 
 use crate::fault::Cause;
 use crate::numbers::{byte, cdb, check_bytes, number, within};

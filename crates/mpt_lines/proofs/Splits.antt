@@ -4,8 +4,8 @@ use Rattle.std.specs.List.{position_from, position, position_or_len, slice_split
 use Rattle.std.proofs.lemmas.List.Splits.{slice_split_first, length-slice_split}
 use Rattle.std.proofs.lemmas.Iterator.Adapters.{position_from-zero}
 use Rattle.std.proofs.lemmas.Grind.{common_steps}
-use Rattle.mpt_script.specs.Words.{pieces}
-use Rattle.mpt_script.specs.Left.{pieces_left}
+use Rattle.mpt_lines.specs.Words.{pieces}
+use Rattle.mpt_lines.specs.Left.{pieces_left}
 
 from_none : (p : ℕ → Bool) (k : ℕ) (xs : List ℕ) → position_from p k xs ≡ None → slice_split p xs ≡ xs ∷ []
 from_none p k [] e = refl

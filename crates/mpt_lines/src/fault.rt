@@ -1,6 +1,6 @@
 //! Why a text isn't a schedule, a plan or hexadecimal.
 ghost use Rattle.std.specs.Prelude.{◌≡◌};
-ghost use Rattle.mpt_script.specs.Causes.{cause_word};
+ghost use Rattle.mpt_lines.specs.Causes.{cause_word};
 
 use mpt_text::OutOfMemory;
 
@@ -59,7 +59,7 @@ pub enum ScriptFault {
 
 impl From<OutOfMemory> for ScriptFault {
     ghost use Rattle.std.specs.Prelude.{◌≡◌};
-    ghost use Rattle.mpt_script.specs.declared.fault.ScriptFault.TheVariants as fault;
+    ghost use Rattle.mpt_lines.specs.declared.fault.ScriptFault.TheVariants as fault;
 
     ghost from_gives = { λ _ e. e ≡ fault.OutOfMemory };
 

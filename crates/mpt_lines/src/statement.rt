@@ -1,6 +1,6 @@
 //! The forms of a line, with the ranges of their numbers.
 ghost use Rattle.std.specs.Prelude.{◌≡◌};
-ghost use Rattle.mpt_script.specs.Statements as spec;
+ghost use Rattle.mpt_lines.specs.Statements as spec;
 
 use crate::command::command;
 use crate::fault::Cause;
@@ -10,7 +10,7 @@ use mpt_trace::{Address, Choice, DiskSpec, Input, Tag};
 
 /// What a line says, by itself. Numbers that name what earlier lines declared aren't judged yet.
 #[derive(Drop)]
-pub(crate) enum Statement {
+pub enum Statement {
     /// How many reply post queues there are.
     Queues(u8),
     /// A disk.
@@ -49,8 +49,19 @@ pub(crate) enum Statement {
     Drain,
 }
 
+/// What a line of a plan says, by itself.
+#[derive(Drop)]
+pub enum PlanStatement {
+    /// A line that a schedule could have too.
+    Line(Statement),
+    /// The block of the submitter of this number begins.
+    Submitter(u128),
+    /// The block of the fabric begins.
+    Fabric,
+}
+
 /// What a line of a schedule says.
-pub(crate) fn schedule_line(mut words: Pieces) -> Result<Statement, Cause>
+pub fn schedule_line(mut words: Pieces) -> Result<Statement, Cause>
     ensures { result ≡ spec.schedule_line words.entry }
 {
     let Some(word) = words.take() else {
@@ -331,4 +342,66 @@ fn host_take_on(words: Pieces) -> Result<Statement, Cause>
         choice: Choice::HostTakeOn(queue),
         count,
     })
+}
+
+/// What a line of a plan says.
+pub fn plan_line(mut words: Pieces) -> Result<PlanStatement, Cause>
+    ensures { result ≡ spec.plan_line words.entry }
+{
+    let Some(word) = words.take() else {
+        return Err(Cause::Form);
+    };
+    if is_word(word, b"submitter") {
+        return submitter(words);
+    }
+    if is_word(word, b"fabric") {
+        return fabric(words);
+    }
+    Ok(PlanStatement::Line(shared_line(word, words)?))
+}
+
+fn submitter(words: Pieces) -> Result<PlanStatement, Cause>
+    ensures { result ≡ spec.submitter words.entry }
+{
+    Ok(PlanStatement::Submitter(number(words.one()?)?))
+}
+
+fn fabric(words: Pieces) -> Result<PlanStatement, Cause>
+    ensures { result ≡ spec.fabric words.entry }
+{
+    words.none()?;
+    Ok(PlanStatement::Fabric)
+}
+
+fn shared_line(word: &[u8], words: Pieces) -> Result<Statement, Cause>
+    ensures { result ≡ spec.shared_line word.now words.entry }
+{
+    if is_word(word, b"queues") {
+        return queues(words);
+    }
+    if is_word(word, b"disk") {
+        return disk(words);
+    }
+    if is_word(word, b"expander") {
+        return expander(words);
+    }
+    if is_word(word, b"plug") {
+        return plug(words);
+    }
+    if is_word(word, b"unplug") {
+        return unplug(words);
+    }
+    if is_word(word, b"reset") {
+        return reset(words);
+    }
+    if is_word(word, b"treset") {
+        return treset(words);
+    }
+    if is_word(word, b"submit") {
+        return submit(words);
+    }
+    if is_word(word, b"abort") {
+        return abort(words);
+    }
+    Err(Cause::Form)
 }
