@@ -5,13 +5,17 @@
 #![tactic(auto)]
 
 mod declared;
+mod generator;
 mod hexadecimal;
 mod line;
+mod print;
 mod schedule;
 mod stage;
 
+pub use generator::generate;
 pub use hexadecimal::read_hex;
 pub use line::Line;
 pub use mpt_lines::{Cause, ScriptFault};
 pub use mpt_text::OutOfMemory;
+pub use print::print_schedule;
 pub use schedule::{Schedule, read_schedule};

@@ -29,6 +29,13 @@ impl Model for Schedule {
 }
 
 impl Schedule {
+    // The lines are those of a schedule.
+    pub(crate) fn from_lines(lines: Vec<Line>) -> Schedule
+        ensures { result ≡ lines.items }
+    {
+        Schedule { lines }
+    }
+
     /// Its lines in order.
     pub fn lines(&self) -> &[Line]
         ensures { result.now ≡ self.now }
