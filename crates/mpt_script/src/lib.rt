@@ -11,6 +11,8 @@ mod line;
 mod print;
 mod schedule;
 mod stage;
+#[cfg(test)]
+mod tests;
 
 pub use generator::generate;
 pub use hexadecimal::read_hex;
