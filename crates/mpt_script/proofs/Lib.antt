@@ -2,3 +2,5 @@ pub mod Reading
 pub mod Room
 pub mod Printing
 pub mod Turns
+pub mod Blocks
+pub mod PlanReading

@@ -5,5 +5,10 @@ pub use Rattle.mpt_lines.specs.Words
 pub mod Declarations
 pub mod Generator
 pub mod Hexadecimal
+pub mod PlanParts
+pub mod PlanState
+pub mod Planning
+pub mod Plans
 pub mod Printed
+pub mod PrintedPlan
 pub mod Schedules

@@ -2,6 +2,7 @@
 ghost use Rattle.std.specs.Prelude.{◌≡◌, ◌+◌, ◌<◌, ◌≤◌, ◌==◌, false, IfOk, IsTrue, OnOk};
 ghost use Rattle.std.specs.List.{list_any};
 ghost use Rattle.mpt_script.specs.Declarations as spec;
+ghost use Rattle.mpt_script.specs.Planning as plan;
 
 use mpt_lines::Cause;
 use crate::line::Line;
@@ -84,7 +85,7 @@ impl Declared {
         Ok(line_of(statement))
     }
 
-    fn is_misplaced(&self, statement: &Statement) -> bool
+    pub fn is_misplaced(&self, statement: &Statement) -> bool
         ensures { result ≡ spec.is_misplaced self.now statement.now }
     {
         match statement {
@@ -97,7 +98,7 @@ impl Declared {
         }
     }
 
-    fn is_repeated(&self, statement: &Statement) -> bool
+    pub fn is_repeated(&self, statement: &Statement) -> bool
         ensures { result ≡ spec.is_repeated self.now statement.now }
     {
         match statement {
@@ -106,7 +107,7 @@ impl Declared {
         }
     }
 
-    fn is_too_many(&self, statement: &Statement) -> bool
+    pub fn is_too_many(&self, statement: &Statement) -> bool
         ensures value { result ≡ spec.is_too_many self.now statement.now }
         ensures limits { (self.now.resets ≤ 64) × (self.now.total ≤ 16777216) }
     {
@@ -120,7 +121,7 @@ impl Declared {
         }
     }
 
-    fn is_unknown(&self, statement: &Statement) -> bool
+    pub fn is_unknown(&self, statement: &Statement) -> bool
         ensures value { result ≡ spec.is_unknown self.now statement.now }
         ensures small { result ≡ false → spec.IsSmall statement.now }
     {
@@ -159,6 +160,13 @@ impl Declared {
         }
     }
 
+    /// Ends the declarations.
+    pub fn begin(&mut self)
+        ensures { self.new ≡ plan.begun self.old }
+    {
+        self.stage = Stage::Steps;
+    }
+
     /// Adds what a line declares. The line is one that `line` answered.
     pub fn note(&mut self, line: &Line) -> Result<(), OutOfMemory>
         requires { spec.HasRoom self.old line.now }
@@ -189,7 +197,7 @@ impl Declared {
 }
 
 // The line that a statement is. Numbers of expanders and phys that were declared are below 256.
-fn line_of(statement: Statement) -> Line
+pub(crate) fn line_of(statement: Statement) -> Line
     requires { spec.IsSmall statement }
     ensures { result ≡ spec.line_of statement }
 {

@@ -94,7 +94,7 @@ fn line_value(declared: &Declared, line: &[u8]) -> Result<Option<Line>, Cause>
 }
 
 // Whether a line is empty or begins with `#`.
-fn says_nothing(line: &[u8]) -> bool
+pub(crate) fn says_nothing(line: &[u8]) -> bool
     ensures { result ≡ says_nothing line.now }
 {
     line.is_empty() || line[0] == b'#'
