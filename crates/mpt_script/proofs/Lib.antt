@@ -4,3 +4,4 @@ pub mod Printing
 pub mod Turns
 pub mod Blocks
 pub mod PlanReading
+pub mod PrintingPlans

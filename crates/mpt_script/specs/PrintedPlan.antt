@@ -25,10 +25,14 @@ expanders_text number (phys ∷ others) = expander_text number phys ++ line_end 
 abbrev pub inputs_text : List Input → List ℕ
 inputs_text inputs = flat_map (λ input. input_line input ++ line_end) inputs
 
+-- a submitter's block
+abbrev pub submitter_text : ℕ → List Input → List ℕ
+submitter_text number inputs = codes "submitter " ++ decimal number ++ line_end ++ inputs_text inputs
+
 -- the blocks of the submitters from this number on
 unfoldable pub submitters_text : ℕ → List (List Input) → List ℕ
 submitters_text number [] = []
-submitters_text number (inputs ∷ others) = codes "submitter " ++ decimal number ++ line_end ++ inputs_text inputs ++ submitters_text (number + 1) others
+submitters_text number (inputs ∷ others) = submitter_text number inputs ++ submitters_text (number + 1) others
 
 -- the fabric's block, unless it has no lines
 abbrev pub fabric_text : List Input → List ℕ

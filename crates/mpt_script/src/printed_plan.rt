@@ -68,12 +68,18 @@ fn push_submitters(text: &mut Text, submitters: &[Inputs]) -> Result<(), OutOfMe
     ensures { OnOk result (text.new ≡ text.old ++ spec.submitters_text 0 submitters.now) }
 {
     for (number, inputs) in submitters.iter().enumerate() {
-        text.push(b"submitter ")?;
-        text.push_decimal(number as u64)?;
-        text.push(b"\n")?;
-        push_inputs(text, inputs.as_slice())?;
+        push_submitter(text, number as u64, inputs.as_slice())?;
     }
     Ok(())
+}
+
+fn push_submitter(text: &mut Text, number: u64, inputs: &[Input]) -> Result<(), OutOfMemory>
+    ensures { OnOk result (text.new ≡ text.old ++ spec.submitter_text number inputs.now) }
+{
+    text.push(b"submitter ")?;
+    text.push_decimal(number)?;
+    text.push(b"\n")?;
+    push_inputs(text, inputs)
 }
 
 fn push_fabric(text: &mut Text, inputs: &[Input]) -> Result<(), OutOfMemory>

@@ -1,5 +1,7 @@
 //! Worked texts.
-use crate::{Cause, ScriptFault, generate, print_schedule, read_hex, read_schedule};
+use crate::{
+    Cause, ScriptFault, generate, print_plan, print_schedule, read_hex, read_plan, read_schedule,
+};
 use mpt_text::OutOfMemory;
 use std::alloc::Global;
 use std::process::Abort;
@@ -218,5 +220,88 @@ fn limits_cuts_and_numbers(rt: HostRuntime) -> Result<(), Fail> {
         };
         assert_eq!(&rt; read_hex(alloc, text.as_bytes()), Err(fault), "{text}");
     }
+    Ok(())
+}
+
+fn plan_answer(alloc: Global, text: &[u8]) -> Result<Vec<u8>, OutOfMemory> {
+    match read_plan(alloc, text) {
+        Ok(plan) => print_plan(alloc, &plan)?.as_bytes().to_vec(alloc),
+        Err(ScriptFault::At { line, cause }) => told(alloc, line, cause),
+        Err(ScriptFault::OutOfMemory) => Err(OutOfMemory),
+    }
+}
+
+#[test]
+fn plans(rt: HostRuntime) -> Result<(), Fail> {
+    let alloc = rt.alloc();
+    let setup = "disk 5000c50000000001 16\nexpander 0 1\n";
+    let short = "disk 5000c50000000001 16\nexpander 0 1\nplug 5000c50000000001 0 0\nsubmitter 0\n\
+        submit 1 5000c50000000001 write 0 1 11\nsubmit 2 5000c50000000001 read 0 1\n\
+        submitter 1\nsubmit 3 5000c50000000001 write 1 1 22\nsubmit 4 5000c50000000001 tur\n";
+    let long = "queues 2\ndisk 5000c50000000001 16\nexpander 0 2\nsubmitter 0\nsubmitter 1\n\
+        abort 1\ntreset 5000c50000000002\nreset\nfabric\nplug 5000c50000000001 0 1\n\
+        unplug 5000c50000000001\n";
+    let whole: [(&str, &str, &str); 8] = [
+        ("", "", ""),
+        ("", "fabric\n", ""),
+        ("", "queues 1\n", ""),
+        ("", short, short),
+        ("", long, long),
+        (setup, "fabric\nplug 5000c50000000001 0 0\n", "fabric\nplug 5000c50000000001 0 0\n"),
+        (setup, "#\nplug 5000C50000000001 0 0\n\n", "plug 5000c50000000001 0 0\n"),
+        (setup, "submitter 0\nfabric\n", "submitter 0\n"),
+    ];
+    for (before, text, printed) in whole {
+        let given = repeated(alloc, before, 1, text)?;
+        let wanted = repeated(alloc, before, 1, printed)?;
+        assert_eq!(&rt; plan_answer(alloc, given.as_slice())?, wanted, "{text}");
+    }
+    let refused: [(&str, &str); 27] = [
+        ("fabric", "3 unended"),
+        ("start\n", "3 form"),
+        ("unit\n", "3 form"),
+        ("drain\n", "3 form"),
+        ("host-put\n", "3 form"),
+        ("fabric 1\n", "3 form"),
+        ("submitter\n", "3 form"),
+        ("submitter 00\n", "3 form"),
+        ("submitter 0\nsubmit 4294967296 5000c50000000001 tur\n", "4 range"),
+        ("queues 2\n", "3 order"),
+        ("plug 5000c50000000001 0 0\ndisk 5000c50000000002 1\n", "4 order"),
+        ("submitter 0\ndisk 5000c50000000002 1\n", "4 order"),
+        ("fabric\nexpander 1 1\n", "4 order"),
+        ("submitter 0\nplug 5000c50000000001 0 0\n", "4 order"),
+        ("unplug 5000c50000000001\n", "3 order"),
+        ("submitter 0\nunplug 5000c50000000001\n", "4 order"),
+        ("submit 1 5000c50000000001 tur\n", "3 order"),
+        ("fabric\nreset\n", "4 order"),
+        ("submitter 1\n", "3 order"),
+        ("submitter 0\nsubmitter 0\n", "4 order"),
+        ("submitter 99999999999999999999\n", "3 order"),
+        ("fabric\nsubmitter 0\n", "4 order"),
+        ("fabric\nfabric\n", "4 order"),
+        (
+            "submitter 0\nsubmit 7 5000c50000000001 tur\nsubmitter 1\nsubmit 7 0000000000000000 tur\n",
+            "6 again",
+        ),
+        (
+            "submitter 0\nsubmitter 1\nsubmitter 2\nsubmitter 3\nsubmitter 4\nsubmitter 5\n\
+             submitter 6\nsubmitter 7\nsubmitter 8\n",
+            "11 many",
+        ),
+        ("plug 5000c50000000001 0 1\n", "3 name"),
+        ("fabric\nunplug 5000c50000000002\n", "4 name"),
+    ];
+    for (text, wanted) in refused {
+        let given = repeated(alloc, setup, 1, text)?;
+        let found = plan_answer(alloc, given.as_slice())?;
+        assert_eq!(&rt; found.as_slice(), wanted.as_bytes(), "{text}");
+    }
+    let crowded = repeated(alloc, "abort 1\n", 4097, "")?;
+    let given = repeated(alloc, "submitter 0\n", 1, "")?;
+    let mut text = given;
+    text.extend_from_slice(crowded.as_slice())?;
+    let found = plan_answer(alloc, text.as_slice())?;
+    assert_eq!(&rt; found.as_slice(), b"4098 many".as_slice());
     Ok(())
 }
