@@ -3,7 +3,7 @@ ghost use Rattle.std.specs.Prelude.{◌≡◌, ◌≤◌, IsTrue, IfOk, MatchRes
 ghost use Rattle.mpi_layout.specs.Rows.{cut_from, first_fault, values_fit};
 ghost use Rattle.config_pages.specs.ConfigAsk.{ConfigAskStands, config_ask_layout, config_ask_values};
 
-use mpi_layout::{Fault, Layout, Row, Rule, fits, low, number, read, write};
+use mpi_layout::{Fault, Layout, Row, Rule, fits, low, number, one_of, read, write};
 
 // mpi2_cnfg.h, MPI2_CONFIG_REQUEST.
 static CONFIG_ASK_ROWS: [Row; 22] = [
@@ -27,15 +27,7 @@ static CONFIG_ASK_ROWS: [Row; 22] = [
     number!(0x17, 1, "PageType", Rule::Any),
     number!(0x18, 4, "PageAddress", Rule::Any),
     number!(0x1c, 3, "SgeLength", Rule::Any),
-    number!(
-        0x1f,
-        1,
-        "SgeFlags",
-        Rule::OneOf {
-            values: [0xd3, 0xd7, 0, 0],
-            count: 2
-        }
-    ),
+    number!(0x1f, 1, "SgeFlags", one_of!(0xd3, 0xd7)),
     number!(0x20, 8, "SgeAddress", Rule::Any),
 ];
 

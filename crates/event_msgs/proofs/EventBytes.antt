@@ -1,12 +1,12 @@
 -- Reading and writing an event and its data.
-use Rattle.std.proofs.Common.{◌≡◌, ℕ, ◌+◌, ◌-◌, ◌*◌, ◌<◌, ◌≤◌, Bool, true, false, not, IsTrue, ◌&&◌, eqb, leb, ltb, cond, List, [], length, take, drop, get_or, replicate, Some, None, refl, ap, subst, sym, ◌∙◌, arith}
+use Rattle.std.proofs.Common.{◌≡◌, ℕ, ◌+◌, ◌-◌, ◌*◌, ◌<◌, ◌≤◌, Bool, true, false, not, IsTrue, ◌&&◌, eqb, leb, ltb, cond, List, [], length, take, drop, get_or, replicate, Option, Some, None, refl, ap, subst, sym, ◌∙◌, arith}
 use Rattle.std.specs.List.{list_all}
 use Rattle.std.specs.Option.{option_or}
 use Rattle.std.proofs.lemmas.Bool.Decides.{nat_tests}
 use Rattle.std.proofs.lemmas.List.{drop_at, take-take, length-take, length-drop, length-append}
 use Rattle.std.proofs.lemmas.Slice.{take-put_mid_below, between-put_mid, drop-put_mid}
 use borrow.Rule.Slice.PartMut.{put_mid}
-use Rattle.mpi_layout.specs.Rows.{RowShape, Stands, IsTiled, field, values_fit}
+use Rattle.mpi_layout.specs.Rows.{RowShape, Stands, IsTiled, field, values_fit, first_fault}
 use Rattle.mpi_layout.specs.declared.row.Rule.TheVariants.{Any}
 use Rattle.mpi_layout.specs.declared.row.Form.TheVariants.{Number}
 use Rattle.mpi_layout.specs.declared.fault.Fault.{Fault}
@@ -108,6 +108,26 @@ not_refused m other bytes fault stands whole event refused others =
 opposite : (b : Bool) → IsTrue b → IsTrue (not b) → ⊥
 opposite true one other = cc
 opposite false one other = cc
+
+-- nor are bytes that stand for an event
+pub EventReplyStands-not_refused : (m : EventReply) (bytes : List ℕ) → EventReplyStands m bytes → event_reply_refusal bytes ≡ None
+EventReplyStands-not_refused m bytes stands = split (eqb (field bytes 0x14 2) 0x1c) (topology_refusal m.event_data_length (field (take (4 * m.event_data_length) (drop 28 bytes)) 8 1)) refl refl where
+  none : first_fault event_reply_layout bytes ≡ None
+  none = Stands-no_fault event_reply_layout (event_reply_values m) bytes stands.fixed
+
+  long : cut_short (event_reply_length m) bytes ≡ None
+  long = let whole = stands.whole in grind (arith, nat_tests)
+
+  rest : event_reply_refusal bytes ≡ cond (eqb (field bytes 0x14 2) 0x1c) (topology_refusal m.event_data_length (field bytes 0x24 1)) None
+  rest = ap (λ o. option_or o (option_or (cut_short (28 + 4 * field bytes 0x00 2) bytes) (cond (eqb (field bytes 0x14 2) 0x1c) (topology_refusal (field bytes 0x00 2) (field bytes 0x24 1)) None))) none ∙ ap (λ w. option_or (cut_short (28 + 4 * w) bytes) (cond (eqb (field bytes 0x14 2) 0x1c) (topology_refusal w (field bytes 0x24 1)) None)) (words-read m bytes stands.fixed) ∙ ap (λ o. option_or o (cond (eqb (field bytes 0x14 2) 0x1c) (topology_refusal m.event_data_length (field bytes 0x24 1)) None)) long
+
+  split : (list : Bool) (refused : Option Fault) → eqb (field bytes 0x14 2) 0x1c ≡ list → topology_refusal m.event_data_length (field (take (4 * m.event_data_length) (drop 28 bytes)) 8 1) ≡ refused → event_reply_refusal bytes ≡ None
+  split false refused is found = rest ∙ ap (λ b. cond b (topology_refusal m.event_data_length (field bytes 0x24 1)) None) is
+  split true None is found = rest ∙ ap (λ b. cond b (topology_refusal m.event_data_length (field bytes 0x24 1)) None) is ∙ sym (refusal_field m.event_data_length bytes) ∙ found
+  split true (Some fault) is found =
+      let read = event-read m bytes stands.fixed in
+      let event : m.event ≡ 0x1c = grind (arith, nat_tests) in
+      absurd (not_refused m m bytes fault stands.fixed stands.whole event found stands)
 
 -- the data's bytes stand for one kind of data alone
 data-same : (event : ℕ) (d e : EventData) (bytes : List ℕ) → IsTrue (kind_fits event d) → IsTrue (kind_fits event e) → DataStands d bytes → DataStands e bytes → d ≡ e

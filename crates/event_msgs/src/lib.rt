@@ -7,6 +7,8 @@ mod event_ask;
 mod event_data;
 mod event_reply;
 mod padding;
+#[cfg(test)]
+mod tests;
 mod topology;
 mod topology_entry;
 

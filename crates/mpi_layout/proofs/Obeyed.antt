@@ -1,5 +1,5 @@
 -- What a reader of a layout's bytes knows of one row.
-use Rattle.std.proofs.Common.{◌≡◌, ℕ, zero, suc, ◌+◌, ◌*◌, ◌^◌, ◌<◌, ◌≤◌, Bool, true, false, not, List, [], ◌∷◌, length, get_or, slice_index, Option, None, refl, arith}
+use Rattle.std.proofs.Common.{◌≡◌, ℕ, zero, suc, ◌<◌, true, List, [], ◌∷◌, length, get_or, slice_index, None, arith}
 use Rattle.std.specs.List.{find}
 use Rattle.mpi_layout.specs.Rows.{RowShape, breaks, field, number_in, obeys}
 use Rattle.mpi_layout.proofs.Reading.{find_front, not_false}

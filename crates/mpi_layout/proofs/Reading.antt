@@ -1,5 +1,5 @@
 -- What a reading has found by the time it has come to a row.
-use Rattle.std.proofs.Common.{◌≡◌, ℕ, zero, suc, ◌+◌, ◌^◌, ◌<◌, ◌≤◌, Bool, true, false, IsTrue, List, [], ◌∷◌, ◌++◌, length, take, get_or, set, map, ltb, Option, Some, None, cond, not, refl, ap, sym, ◌∙◌, arith}
+use Rattle.std.proofs.Common.{◌≡◌, ℕ, zero, suc, ◌+◌, ◌^◌, ◌<◌, ◌≤◌, Bool, true, false, IsTrue, List, [], ◌∷◌, ◌++◌, length, take, get_or, set, map, ltb, Some, None, cond, not, refl, ap, sym, ◌∙◌, arith}
 use Rattle.std.specs.List.{find}
 use Rattle.std.proofs.lemmas.Bool.Decides.{nat_tests}
 use Rattle.std.proofs.Math.ListN.{get_or-map, length-set}
@@ -8,7 +8,7 @@ use Rattle.byteorder.specs.Numbers.{little_from-lt}
 use Rattle.mpi_layout.proofs.Fields.{field-little}
 use Rattle.mpi_layout.specs.declared.row.Row.{Row}
 use Rattle.mpi_layout.specs.Rows.{RowShape, Shape, row_shape, breaks, field, fields, first_fault, obeys, number_in, values_fit}
-use Rattle.mpi_layout.specs.declared.fault.Fault.TheVariants.{Short, Field}
+use Rattle.mpi_layout.specs.declared.fault.Fault.TheVariants.{Field}
 
 -- the rows in front obey their rules, and their numbers stand in front of the values
 pub record ReadSoFar (rows : List RowShape) (bytes values : List ℕ) (i : ℕ) : Type 0 where

@@ -1,8 +1,7 @@
 -- What a writing has left by the time it has come to a row.
-use Rattle.std.proofs.Common.{◌≡◌, ℕ, zero, suc, ◌+◌, ◌-◌, ◌^◌, ◌<◌, ◌≤◌, Bool, true, false, IsTrue, List, [], ◌∷◌, ◌++◌, length, take, drop, get_or, cond, not, Option, Some, None, refl, append-nil, map, subst, ap, sym, ◌∙◌, arith}
-use Rattle.std.specs.List.{find, list_all, zip}
+use Rattle.std.proofs.Common.{◌≡◌, ℕ, zero, suc, ◌+◌, ◌-◌, ◌^◌, ◌<◌, ◌≤◌, true, false, IsTrue, List, [], ◌∷◌, ◌++◌, length, take, drop, get_or, not, None, refl, append-nil, map, subst, ap, sym, ◌∙◌, arith}
+use Rattle.std.specs.List.{find}
 use Rattle.std.proofs.lemmas.Bool.Decides.{nat_tests}
-use Rattle.std.proofs.lemmas.Grind.{common_steps}
 use Rattle.std.proofs.lemmas.List.{take_all, map_more, take_more, length-map, drop_all, drop-drop, length-drop, length-take}
 use Rattle.std.proofs.Math.ListN.{get_or-map}
 use Rattle.std.proofs.Math.Seq.{drop-append_seam}
@@ -11,9 +10,9 @@ use borrow.Rule.Slice.PartMut.{put_mid}
 use Rattle.byteorder.specs.Endian.{little_from, little_number, little_bytes}
 use Rattle.byteorder.specs.Numbers.{length-bytes_low_first, little_from-take, little_number-reads_back}
 use Rattle.mpi_layout.specs.declared.row.Row.{Row}
-use Rattle.mpi_layout.specs.Rows.{RowShape, Shape, row_shape, breaks, field, fields, number_in, obeys, tiles, value_fits, values_fit, Stands}
+use Rattle.mpi_layout.specs.Rows.{RowShape, Shape, row_shape, breaks, field, fields, number_in, obeys, tiles, values_fit, Stands}
 use Rattle.mpi_layout.proofs.Fields.{field-little, field_reads}
-use Rattle.mpi_layout.proofs.Tiling.{LiesIn, tiles_row, first_row, tiles_end}
+use Rattle.mpi_layout.proofs.Tiling.{tiles_row, first_row}
 
 -- the rows in front read back their values, and the bytes past the layout are as before
 pub record WrittenSoFar (rows : List RowShape) (end : ℕ) (values before out : List ℕ) (i : ℕ) : Type 0 where

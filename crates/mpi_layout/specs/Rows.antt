@@ -1,5 +1,5 @@
 -- Layouts as tables of rows: what their numbers are in bytes, and what they have to be.
-use Rattle.std.specs.Prelude.{◌≡◌, ℕ, zero, suc, ◌+◌, ◌*◌, ◌%◌, ◌^◌, ◌<◌, ◌≤◌, IsTrue, Bool, true, false, not, ◌&&◌, ◌==◌, nat_lt, nat_le, bit_and, if◌then◌else◌, List, [], ◌∷◌, length, drop, take, map, slice_index, Option, Some, None}
+use Rattle.std.specs.Prelude.{◌≡◌, ℕ, zero, suc, ◌+◌, ◌*◌, ◌%◌, ◌^◌, ◌≤◌, IsTrue, Bool, true, not, ◌&&◌, ◌==◌, nat_lt, nat_le, bit_and, if◌then◌else◌, List, [], ◌∷◌, length, take, map, slice_index, Option, Some, None}
 use Rattle.std.specs.List.{find, list_all, list_any, zip}
 use Rattle.std.specs.Option.{option_map}
 use Rattle.mpi_layout.specs.declared.row.Row.{Row}

@@ -4,6 +4,8 @@
 mod fault;
 mod layout;
 mod row;
+#[cfg(test)]
+mod tests;
 
 pub use fault::Fault;
 pub use layout::{Layout, fits, read, write};
@@ -55,5 +57,28 @@ macro_rules! low {
     };
     ($value:expr, 8) => {
         $value
+    };
+}
+
+/// The rule that allows two, three or four numbers: `one_of!(0xd3, 0xd7)`.
+#[macro_export]
+macro_rules! one_of {
+    ($a:literal, $b:literal) => {
+        $crate::Rule::OneOf {
+            values: [$a, $b, 0, 0],
+            count: 2,
+        }
+    };
+    ($a:literal, $b:literal, $c:literal) => {
+        $crate::Rule::OneOf {
+            values: [$a, $b, $c, 0],
+            count: 3,
+        }
+    };
+    ($a:literal, $b:literal, $c:literal, $d:literal) => {
+        $crate::Rule::OneOf {
+            values: [$a, $b, $c, $d],
+            count: 4,
+        }
     };
 }

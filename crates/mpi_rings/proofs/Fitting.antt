@@ -1,5 +1,5 @@
 -- The fields of a descriptor fit their rows.
-use Rattle.std.proofs.Common.{◌≡◌, ℕ, ◌<◌, ◌==◌, ◌||◌, IsTrue, List, [], ◌∷◌, arith}
+use Rattle.std.proofs.Common.{◌≡◌, ℕ, ◌<◌, ◌==◌, ◌||◌, IsTrue, [], ◌∷◌, arith}
 use Rattle.std.proofs.lemmas.Bool.Decides.{nat_tests}
 use Rattle.mpi_layout.specs.Rows.{values_fit}
 use Rattle.mpi_rings.specs.declared.request_descriptor.PostKind.{PostKind}

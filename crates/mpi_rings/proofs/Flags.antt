@@ -1,11 +1,9 @@
 -- The flags of a descriptor, its first byte.
-use Rattle.std.proofs.Common.{◌≡◌, ◌≢◌, ℕ, ◌%◌, ◌^◌, ◌<◌, ◌≤◌, ◌⊎◌, ◌==◌, ◌||◌, IsTrue, List, [], ◌∷◌, length, get_or, true, Some, None, ap, arith}
+use Rattle.std.proofs.Common.{◌≡◌, ◌≢◌, ℕ, ◌%◌, ◌<◌, ◌⊎◌, ◌==◌, ◌||◌, IsTrue, List, [], ◌∷◌, length, get_or, Some, None, ap, arith}
 use Rattle.std.proofs.Math.Nat.{mod-eq_of_lt}
 use Rattle.std.proofs.lemmas.Bool.Decides.{nat_tests}
-use Rattle.mpi_layout.specs.declared.row.Rule.{Rule}
 use Rattle.mpi_layout.specs.declared.fault.Fault.{Fault}
-use Rattle.mpi_layout.specs.Rows.{RowShape, Stands, number, field, first_fault, obeys, values_fit}
-use Rattle.mpi_layout.proofs.Writing.{fits_front}
+use Rattle.mpi_layout.specs.Rows.{Stands, field, first_fault, obeys, values_fit}
 use Rattle.mpi_rings.specs.RequestDescriptor.{request_flags, request_layout}
 use Rattle.mpi_rings.specs.ReplyDescriptor.{reply_layout, success_layout, address_layout, unused_layout}
 

@@ -1,11 +1,10 @@
 -- What a post and a reading leave in the entries of a reply post ring.
-use Rattle.std.proofs.Common.{◌≡◌, ◌≢◌, ℕ, zero, suc, ◌+◌, ◌-◌, ◌%◌, ◌<◌, ◌≤◌, ◌⊎◌, inl, inr, IsTrue, ◌==◌, Bool, true, false, not, ltb, List, [], ◌∷◌, ◌++◌, length, take, drop, get_or, set, replicate, Option, Some, None, refl, sym, ap, subst, ◌∙◌, append_assoc, length-append, arith}
+use Rattle.std.proofs.Common.{◌≡◌, ◌≢◌, ℕ, suc, ◌+◌, ◌-◌, ◌%◌, ◌<◌, ◌≤◌, ◌⊎◌, inl, inr, IsTrue, ◌==◌, Bool, true, false, not, ltb, List, [], ◌∷◌, ◌++◌, length, take, drop, get_or, set, replicate, Some, refl, sym, ap, subst, ◌∙◌, append_assoc, length-append, arith}
 use Rattle.std.specs.List.{list_all, take_while, slice_get}
 use Rattle.std.proofs.lemmas.Bool.Decides.{nat_tests}
 use Rattle.std.proofs.lemmas.Grind.{get_or_default_zero}
 use Rattle.std.proofs.lemmas.List.{length-set, length-replicate, length-drop, length-take, replicate-append-replicate, append-nil}
 use Rattle.std.proofs.Math.Seq.{set-append_seam, append_snoc, get_or-append_seam}
-use Rattle.std.proofs.Math.Nat.{mod-eq_of_lt}
 use Rattle.mpi_rings.specs.PostEntries.{IsInOrder, from_index, is_used, unused, waiting_in}
 use Rattle.mpi_rings.proofs.Rounds.{IsPlace, round_by_one, round_set, round_get, take_while-before, take_while-all}
 

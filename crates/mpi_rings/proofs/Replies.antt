@@ -1,11 +1,11 @@
 -- The fields of a reply descriptor are its numbers, and bytes stand for one descriptor at most.
-use Rattle.std.proofs.Common.{◌≡◌, ℕ, List, get_or, ◌==◌, ◌||◌, ◌⊎◌, IsTrue, refl, ap, sym, ◌∙◌, Some, None, Result, Ok, Err, MatchResult, IfOk, arith}
+use Rattle.std.proofs.Common.{◌≡◌, ℕ, List, get_or, ap, Some, None, Result, Ok, Err, MatchResult, IfOk, arith}
 use Rattle.mpi_layout.specs.declared.fault.Fault.{Fault}
 use Rattle.mpi_layout.specs.Rows.{Shape, first_fault}
 use Rattle.mpi_layout.proofs.Moves.{Stands-same}
 use Rattle.mpi_rings.specs.declared.reply_descriptor.ReplyDescriptor.{ReplyDescriptor}
 use Rattle.mpi_rings.specs.declared.reply_descriptor.ReplyDescriptor.TheVariants.{Success, Address, Unused}
-use Rattle.mpi_rings.specs.ReplyDescriptor.{HasItsFlags, ReplyStands, reply_layout, reply_values, success_layout, address_layout, unused_layout}
+use Rattle.mpi_rings.specs.ReplyDescriptor.{HasItsFlags, ReplyStands, reply_layout, success_layout, address_layout, unused_layout}
 use Rattle.mpi_rings.proofs.Flags.{success_flags, address_flags, unused_flags, success_clean, address_clean, unused_clean, unused_known}
 
 -- bytes stand for one descriptor at most

@@ -4,7 +4,7 @@ ghost use Rattle.mpi_layout.specs.Rows.{cut_from, first_fault, values_fit};
 ghost use Rattle.mpi_rings.specs.ReplyDescriptor.{HasItsFlags, ReplyStands, address_layout, layout_of, reply_layout, reply_values, success_layout, unused_layout};
 
 use crate::descriptor::bytes_of;
-use mpi_layout::{Fault, Layout, Row, Rule, low, number, read};
+use mpi_layout::{Fault, Layout, Row, Rule, low, number, one_of, read};
 
 // mpi2.h, MPI2_SCSI_IO_SUCCESS_REPLY_DESCRIPTOR.
 static SUCCESS_ROWS: [Row; 5] = [
@@ -25,15 +25,7 @@ static ADDRESS_ROWS: [Row; 4] = [
 
 // mpi2.h, MPI2_DEFAULT_REPLY_DESCRIPTOR.
 static UNUSED_ROWS: [Row; 4] = [
-    number!(
-        0x00,
-        1,
-        "ReplyFlags",
-        Rule::OneOf {
-            values: [0x0f, 0xff, 0, 0],
-            count: 2
-        }
-    ),
+    number!(0x00, 1, "ReplyFlags", one_of!(0x0f, 0xff)),
     number!(0x01, 1, "MSIxIndex", Rule::Any),
     number!(0x02, 2, "SMID", Rule::Any),
     number!(0x04, 4, "Reserved", Rule::Any),

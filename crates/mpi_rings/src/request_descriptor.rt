@@ -4,20 +4,12 @@ ghost use Rattle.mpi_layout.specs.Rows.{cut_from, first_fault, obeys, values_fit
 ghost use Rattle.mpi_rings.specs.RequestDescriptor.{RequestStands, flags_of, request_flags, request_layout, request_values};
 
 use crate::descriptor::bytes_of;
-use mpi_layout::{Fault, Layout, Row, Rule, low, number, read};
+use mpi_layout::{Fault, Layout, Row, Rule, low, number, one_of, read};
 
 // mpi2.h, MPI2_SCSI_IO_REQUEST_DESCRIPTOR, MPI2_HIGH_PRIORITY_REQUEST_DESCRIPTOR and
 // MPI2_DEFAULT_REQUEST_DESCRIPTOR.
 static REQUEST_ROWS: [Row; 5] = [
-    number!(
-        0x00,
-        1,
-        "RequestFlags",
-        Rule::OneOf {
-            values: [0x00, 0x06, 0x08, 0],
-            count: 3
-        }
-    ),
+    number!(0x00, 1, "RequestFlags", one_of!(0x00, 0x06, 0x08)),
     number!(0x01, 1, "MSIxIndex", Rule::Any),
     number!(0x02, 2, "SMID", Rule::Any),
     number!(0x04, 2, "LMID", Rule::Any),

@@ -1,41 +1,75 @@
 -- What is printed of an input that was read whole.
-use Rattle.std.specs.Prelude.{◌≡◌, ℕ, ◌<◌, ◌≤◌, Bool, not, ◌==◌, nat_lt, if◌then◌else◌, List, [], ◌∷◌, ◌++◌, length, slice_index, codes, Option, Some, None, Result, Ok, Err}
-use Rattle.std.specs.Option.{option_map}
+use Rattle.std.specs.Prelude.{◌≡◌, ℕ, ◌<◌, ◌≤◌, List, ◌++◌, codes, Option, Some, None, Result, Ok, Err}
 use Rattle.hex.specs.declared.error.FromHexError.{FromHexError}
-use Rattle.mpi_layout.specs.Rows.{first_fault}
-use Rattle.scsi_msgs.specs.declared.scsi_io.ScsiIo.{ScsiIo}
-use Rattle.scsi_msgs.specs.ScsiIo.{ScsiIoStands, scsi_io_layout, scsi_io_values}
-use Rattle.mpt_messages.specs.Listing.{fault_text, heading_text, line_end, rows_text, short_text}
+use Rattle.mpi_layout.specs.Rows.{Shape, first_fault}
+use Rattle.mpi_layout.specs.declared.fault.Fault.{Fault}
+use Rattle.mpi_rings.specs.declared.reply_descriptor.ReplyDescriptor.{ReplyDescriptor}
+use Rattle.mpi_rings.specs.declared.request_descriptor.RequestDescriptor.{RequestDescriptor}
+use Rattle.mpi_rings.specs.ReplyDescriptor.{ReplyStands, reply_layout, success_layout}
+use Rattle.mpi_rings.specs.RequestDescriptor.{RequestStands, request_layout}
+use Rattle.config_pages.specs.declared.device_page0.DevicePage0.{DevicePage0}
+use Rattle.config_pages.specs.DevicePage0.{DevicePage0Stands, device_page0_layout}
+use Rattle.mpt_messages.specs.declared.function.Kind.{Kind}
+use Rattle.mpt_messages.specs.declared.message.Message.{Message}
+use Rattle.mpt_messages.specs.declared.fault.MsgFault.{MsgFault}
+use Rattle.mpt_messages.specs.Message.{MessageStands, message_listing, reply_function}
+use Rattle.mpt_messages.specs.Refusal.{IsOfKind, reply_refusal, request_refusal}
+use Rattle.mpt_messages.specs.RefusalListing.{reply_refusal_text, request_refusal_text}
+use Rattle.mpt_messages.specs.Listing.{fault_text, line_end}
 use Rattle.mpt_cli.specs.declared.command.Command.{Command}
-use Rattle.mpt_cli.specs.declared.command.Command.TheVariants.{DecodeScsi}
+use Rattle.mpt_cli.specs.declared.command.Command.TheVariants.{Decode}
+use Rattle.mpt_cli.specs.declared.command.Decoded.{Decoded}
+use Rattle.mpt_cli.specs.declared.command.Decoded.TheVariants as decoded
 use Rattle.mpt_cli.specs.declared.status.Status.{Status}
 use Rattle.mpt_cli.specs.declared.status.Status.TheVariants as status
+use Rattle.mpt_cli.specs.Descriptors.{page_listing, reply_descriptor_listing, request_descriptor_listing}
 use Rattle.mpt_cli.specs.Input.{hexadecimal, line_count}
 
--- the listing of a SCSI IO request
-abbrev pub scsi_listing : ScsiIo → List ℕ
-scsi_listing m = heading_text (codes "scsi-io") 108 ++ rows_text (scsi_io_layout).rows (scsi_io_values m)
+-- the answer to bytes as a request of this kind: the listing of the request that they stand for, or the line of their first refusal
+abbrev pub IsRequestAnswer : Kind → List ℕ → Status → List ℕ → Type 0
+IsRequestAnswer kind bytes status.Ok text = (m : Message) × IsOfKind kind m × MessageStands m bytes × (text ≡ message_listing m)
+IsRequestAnswer kind bytes status.Refused text = (fault : MsgFault) × (request_refusal kind bytes ≡ Some fault) × (text ≡ request_refusal_text bytes fault)
+IsRequestAnswer kind bytes _ text = ⊥
 
--- the line of the first refusal of the bytes as a SCSI IO request
-abbrev pub scsi_refusal : List ℕ → Option (List ℕ)
-scsi_refusal bytes =
-    if nat_lt (length bytes) 12 then Some (short_text 12 (length bytes))
-    else if not (slice_index bytes 3 == 0) then Some (codes "function not built" ++ line_end)
-    else option_map (fault_text (scsi_io_layout).rows) (first_fault scsi_io_layout bytes)
+-- as a reply
+abbrev pub IsReplyAnswer : List ℕ → Status → List ℕ → Type 0
+IsReplyAnswer bytes status.Ok text = (m : Message) × (reply_function m ≡ None → ⊥) × MessageStands m bytes × (text ≡ message_listing m)
+IsReplyAnswer bytes status.Refused text = (fault : MsgFault) × (reply_refusal bytes ≡ Some fault) × (text ≡ reply_refusal_text bytes fault)
+IsReplyAnswer bytes _ text = ⊥
 
--- the answer to bytes: the listing of the request that they stand for, or the line of their first refusal
-abbrev pub IsScsiAnswer : List ℕ → Status → List ℕ → Type 0
-IsScsiAnswer bytes status.Ok text = (scsi_refusal bytes ≡ None) × (m : ScsiIo) × ScsiIoStands m bytes × (text ≡ scsi_listing m)
-IsScsiAnswer bytes status.Refused text = scsi_refusal bytes ≡ Some text
-IsScsiAnswer bytes _ text = ⊥
+-- as a request descriptor
+abbrev pub IsPostAnswer : List ℕ → Status → List ℕ → Type 0
+IsPostAnswer bytes status.Ok text = (d : RequestDescriptor) × RequestStands d bytes × (text ≡ request_descriptor_listing d)
+IsPostAnswer bytes status.Refused text = (fault : Fault) × (first_fault request_layout bytes ≡ Some fault) × (text ≡ fault_text (request_layout).rows fault)
+IsPostAnswer bytes _ text = ⊥
+
+-- as a reply descriptor
+abbrev pub IsReplyDescriptorAnswer : List ℕ → Status → List ℕ → Type 0
+IsReplyDescriptorAnswer bytes status.Ok text = (d : ReplyDescriptor) × ReplyStands d bytes × (text ≡ reply_descriptor_listing d)
+IsReplyDescriptorAnswer bytes status.Refused text = (fault : Fault) × (first_fault reply_layout bytes ≡ Some fault) × (text ≡ fault_text (success_layout).rows fault)
+IsReplyDescriptorAnswer bytes _ text = ⊥
+
+-- as a SAS Device Page 0
+abbrev pub IsPageAnswer : List ℕ → Status → List ℕ → Type 0
+IsPageAnswer bytes status.Ok text = (page : DevicePage0) × DevicePage0Stands page bytes × (text ≡ page_listing page)
+IsPageAnswer bytes status.Refused text = (fault : Fault) × (first_fault device_page0_layout bytes ≡ Some fault) × (text ≡ fault_text (device_page0_layout).rows fault)
+IsPageAnswer bytes _ text = ⊥
+
+-- the answer to bytes
+abbrev pub IsBytesAnswer : Decoded → List ℕ → Status → List ℕ → Type 0
+IsBytesAnswer (decoded.Request kind) bytes ended text = IsRequestAnswer kind bytes ended text
+IsBytesAnswer decoded.Reply bytes ended text = IsReplyAnswer bytes ended text
+IsBytesAnswer decoded.Post bytes ended text = IsPostAnswer bytes ended text
+IsBytesAnswer decoded.Answer bytes ended text = IsReplyDescriptorAnswer bytes ended text
+IsBytesAnswer decoded.Page0 bytes ended text = IsPageAnswer bytes ended text
 
 -- the answer to hexadecimal input
-abbrev pub IsHexAnswer : Result (List ℕ) FromHexError → Status → List ℕ → Type 0
-IsHexAnswer (Err error) status.Refused text = text ≡ codes "refused line 1 hex" ++ line_end
-IsHexAnswer (Err error) _ text = ⊥
-IsHexAnswer (Ok bytes) ended text = IsScsiAnswer bytes ended text
+abbrev pub IsHexAnswer : Decoded → Result (List ℕ) FromHexError → Status → List ℕ → Type 0
+IsHexAnswer what (Err error) status.Refused text = text ≡ codes "refused line 1 hex" ++ line_end
+IsHexAnswer what (Err error) _ text = ⊥
+IsHexAnswer what (Ok bytes) ended text = IsBytesAnswer what bytes ended text
 
 -- the answer to a command's whole input
 abbrev pub IsAnswer : Command → List ℕ → Status → List ℕ → Type 0
-IsAnswer DecodeScsi input status.TooLong text = (20000 < line_count input) × (text ≡ codes "too long" ++ line_end)
-IsAnswer DecodeScsi input ended text = (line_count input ≤ 20000) × IsHexAnswer (hexadecimal input) ended text
+IsAnswer (Decode what) input status.TooLong text = (20000 < line_count input) × (text ≡ codes "too long" ++ line_end)
+IsAnswer (Decode what) input ended text = (line_count input ≤ 20000) × IsHexAnswer what (hexadecimal input) ended text

@@ -1,9 +1,26 @@
 -- The words of the command line.
-use Rattle.std.specs.Prelude.{ℕ, List, [], ◌∷◌, ◌&&◌, bytes_eq, Option, Some, None, codes, if◌then◌else◌}
+use Rattle.std.specs.Prelude.{ℕ, List, [], ◌∷◌, bytes_eq, Option, Some, None, codes, if◌then◌else◌}
+use Rattle.std.specs.Option.{option_map}
+use Rattle.mpt_messages.specs.declared.function.Kind.TheVariants as kind
 use Rattle.mpt_cli.specs.declared.command.Command.{Command}
-use Rattle.mpt_cli.specs.declared.command.Command.TheVariants.{DecodeScsi}
+use Rattle.mpt_cli.specs.declared.command.Command.TheVariants.{Decode}
+use Rattle.mpt_cli.specs.declared.command.Decoded.{Decoded}
+use Rattle.mpt_cli.specs.declared.command.Decoded.TheVariants as decoded
+
+-- what a word after `decode` names
+abbrev pub decoded_of : List ℕ → Option Decoded
+decoded_of word =
+    if bytes_eq word (codes "scsi") then Some (decoded.Request kind.ScsiIo)
+    else if bytes_eq word (codes "high") then Some (decoded.Request kind.HighPriority)
+    else if bytes_eq word (codes "default") then Some (decoded.Request kind.Default)
+    else if bytes_eq word (codes "door") then Some (decoded.Request kind.Handshake)
+    else if bytes_eq word (codes "reply") then Some decoded.Reply
+    else if bytes_eq word (codes "post") then Some decoded.Post
+    else if bytes_eq word (codes "answer") then Some decoded.Answer
+    else if bytes_eq word (codes "page0") then Some decoded.Page0
+    else None
 
 -- the command that the words name
 abbrev pub command_of : List (List ℕ) → Option Command
-command_of (first ∷ second ∷ []) = if bytes_eq first (codes "decode") && bytes_eq second (codes "scsi") then Some DecodeScsi else None
+command_of (first ∷ second ∷ []) = if bytes_eq first (codes "decode") then option_map Decode (decoded_of second) else None
 command_of _ = None

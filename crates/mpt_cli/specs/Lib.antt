@@ -1,4 +1,5 @@
 pub mod Command
 pub mod Input
+pub mod Descriptors
 pub mod Answer
 pub mod Run

@@ -1,12 +1,48 @@
 //! The words of the command line.
 ghost use Rattle.std.specs.Prelude.{◌≡◌, map, string_bytes};
-ghost use Rattle.mpt_cli.specs.Command.{command_of};
+ghost use Rattle.mpt_cli.specs.Command.{command_of, decoded_of};
+
+use mpt_messages::Kind;
+
+/// What `decode` reads.
+#[derive(Clone, Copy, Debug, PartialEq, Eq)]
+pub enum Decoded {
+    /// `scsi`, `high`, `default` and `door`: a request that travels in this way.
+    Request(Kind),
+    /// `reply`: a reply.
+    Reply,
+    /// `post`: a request descriptor.
+    Post,
+    /// `answer`: a reply descriptor.
+    Answer,
+    /// `page0`: a SAS Device Page 0.
+    Page0,
+}
+
+impl Decoded {
+    // What the word names, or none.
+    fn from_word(word: &str) -> Option<Decoded>
+        ensures { result ≡ decoded_of word.now }
+    {
+        match word {
+            "scsi" => Some(Decoded::Request(Kind::ScsiIo)),
+            "high" => Some(Decoded::Request(Kind::HighPriority)),
+            "default" => Some(Decoded::Request(Kind::Default)),
+            "door" => Some(Decoded::Request(Kind::Handshake)),
+            "reply" => Some(Decoded::Reply),
+            "post" => Some(Decoded::Post),
+            "answer" => Some(Decoded::Answer),
+            "page0" => Some(Decoded::Page0),
+            _ => None,
+        }
+    }
+}
 
 /// What the words ask for.
 #[derive(Clone, Copy, Debug, PartialEq, Eq)]
 pub enum Command {
-    /// `decode scsi`: the fields of one SCSI IO request.
-    DecodeScsi,
+    /// `decode <kind>`: the fields of one message, descriptor or page.
+    Decode(Decoded),
 }
 
 impl Command {
@@ -15,8 +51,8 @@ impl Command {
         ensures { result ≡ command_of (map string_bytes words.now) }
     {
         match words {
-            [first, second] if first.as_str() == "decode" && second.as_str() == "scsi" => {
-                Some(Command::DecodeScsi)
+            [first, second] if first.as_str() == "decode" => {
+                Decoded::from_word(second.as_str()).map(Command::Decode)
             }
             _ => None,
         }

@@ -1,15 +1,16 @@
-//! The command line: decodes one message from hexadecimal.
+//! The command line: decodes one message, descriptor or page from hexadecimal.
 #![tactic(auto)]
 
 mod answer;
 mod command;
+mod decode;
 mod input;
 mod run;
 mod status;
 #[cfg(test)]
 mod tests;
 
-pub use command::Command;
+pub use command::{Command, Decoded};
 use mpt_outside::{StdSink, StdSource};
 use mpt_text::OutOfMemory;
 pub use run::run;

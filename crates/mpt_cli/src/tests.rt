@@ -140,7 +140,7 @@ fn decodes_or_refuses(rt: HostRuntime) -> Result<(), Fail> {
             "decode scsi",
             function.as_str(),
             Status::Refused,
-            "function not built\n",
+            "wrong kind 01 scsi\n",
         ),
         (
             "decode scsi",
@@ -169,6 +169,134 @@ fn decodes_or_refuses(rt: HostRuntime) -> Result<(), Fail> {
             assert_eq!(rt; ended, status, "{line} {input}");
             assert_eq!(rt; written.as_slice(), text.as_bytes(), "{line} {input}");
         }
+    }
+    Ok(())
+}
+
+/// A SCSI IO reply with CHECK CONDITION, 0x12 sense bytes and one byte moved fewer than asked.
+const CHECK_CONDITION: &str =
+    "0a000a00000000000000000002014500 00000000000000001200000000000000 0100000000000000";
+
+// The text with zeros behind it, so many bytes.
+fn with_zeros(alloc: Global, text: &str, count: u32) -> Result<String, AllocError> {
+    let mut longer = String::from_str(alloc, text)?;
+    for _ in 0..count {
+        longer.push_str("00")?;
+    }
+    Ok(longer)
+}
+
+// The digits with two others at a place.
+fn changed(alloc: Global, place: usize, digits: &str) -> Result<String, Fail> {
+    with_digits(alloc, CHECK_CONDITION, place, digits)
+}
+
+#[test]
+fn refuses_in_order(rt: HostRuntime) -> Result<(), Fail> {
+    let alloc = rt.alloc();
+    let long_tail = changed(alloc, 4, "20")?;
+    let short_list =
+        "02000b07 00000000 00000000 00000000 00000000 1c000000 01000000 00000000000000";
+    for (kind, start, zeros, text) in [
+        ("default", "0000001a", 40, "unknown function 1a\n"),
+        ("default", "0a00000100030000", 44, "wrong kind 01 default\n"),
+        ("door", "0a00000100030000", 44, "wrong kind 01 door\n"),
+        ("high", "0a00000100", 0, "short need 12 have 5\n"),
+        ("high", "0a00000100030000", 43, "short need 52 have 51\n"),
+        ("reply", "00", 18, "short need 20 have 19\n"),
+        ("reply", long_tail.as_str(), 0, "short need 128 have 40\n"),
+        ("reply", "0a0009000000", 34, "field 02 MsgLength\n"),
+        ("reply", short_list, 1, "field 00 EventDataLength\n"),
+        ("reply", short_list, 0, "short need 36 have 35\n"),
+        (
+            "reply",
+            "03000b07 00000000 00000000 00000000 00000000 1c000000 01000000 0100490004000000 fd000300",
+            0,
+            "field 24 NumEntries\n",
+        ),
+        ("post", "02", 7, "field 00 RequestFlags\n"),
+        ("post", "00", 6, "short need 8 have 7\n"),
+        ("answer", "02", 7, "field 00 ReplyFlags\n"),
+        ("page0", "000001", 53, "field 02 PageNumber\n"),
+        ("page0", "000000", 52, "short need 56 have 55\n"),
+    ] {
+        let input = with_zeros(alloc, start, zeros)?;
+        let mut line = String::from_str(alloc, "decode ")?;
+        line.push_str(kind)?;
+        let (ended, written) = outcome(
+            alloc,
+            line.as_str(),
+            input.as_bytes(),
+            7,
+            (NO_CALL, NO_CALL),
+        )?;
+        assert_eq!(rt; ended, Status::Refused, "{kind} {start}");
+        assert_eq!(rt; written.as_slice(), text.as_bytes(), "{kind} {start}");
+    }
+    Ok(())
+}
+
+#[test]
+fn lists_parts(rt: HostRuntime) -> Result<(), Fail> {
+    let alloc = rt.alloc();
+    let long_tail = with_zeros(alloc, changed(alloc, 4, "20")?.as_str(), 88)?;
+    let reset = with_zeros(alloc, "0a00000100030000", 44)?;
+    let added =
+        "04000b07 00000100 00000000 00000000 00000000 1c000000 01000000 0100490004000000 01000300 09000001";
+    let other = "01000807 00000000 00000000 00000000 00000000 16000000 01000000 aabbccdd";
+    // Lines that stand in the listing, one after another, with an LF before each.
+    for (line, input, lines) in [
+        (
+            "decode reply",
+            CHECK_CONDITION,
+            "\n0c SCSIStatus 0x02\n0d SCSIState 0x01\n0e IOCStatus 0x0045\n",
+        ),
+        (
+            "decode reply",
+            CHECK_CONDITION,
+            "\n18 SenseCount 0x00000012\n",
+        ),
+        ("decode reply", CHECK_CONDITION, "\n20 TaskTag 0x0001\n"),
+        ("decode reply", CHECK_CONDITION, "\n28 Tail -\n"),
+        ("decode reply", CHECK_CONDITION, "scsi-io-reply 40\n"),
+        ("decode reply", long_tail.as_str(), "scsi-io-reply 128\n"),
+        ("decode reply", long_tail.as_str(), "\n28 Tail 88*00\n"),
+        (
+            "decode high",
+            reset.as_str(),
+            "task-mgmt 52\n00 DevHandle 0x000a\n",
+        ),
+        (
+            "decode reply",
+            added,
+            "event-reply 44\n00 EventDataLength 0x0004\n",
+        ),
+        (
+            "decode reply",
+            added,
+            "\n24 NumEntries 0x01\n25 StartPhyNum 0x00\n26 ExpStatus 0x03\n27 PhysicalPort 0x00\n28 AttachedDevHandle 0x0009\n2a LinkRate 0x00\n2b PhyStatus 0x01\n2c Tail -\n",
+        ),
+        ("decode reply", other, "\n1c EventData aabbccdd\n"),
+        (
+            "decode post",
+            "0600010100000000",
+            "request-descriptor 8\n00 RequestFlags 0x06\n01 MSIxIndex 0x00\n02 SMID 0x0101\n04 LMID 0x0000\n06 DevHandle 0x0000\n",
+        ),
+        (
+            "decode answer",
+            "0100090000000100",
+            "reply-descriptor 8\n00 ReplyFlags 0x01\n01 MSIxIndex 0x00\n02 SMID 0x0009\n04 ReplyFrameAddress 0x00010000\n",
+        ),
+        (
+            "decode answer",
+            "ffffffffffffffffee",
+            "\n04 Reserved 0xffffffff\n",
+        ),
+    ] {
+        let (ended, written) = outcome(alloc, line, input.as_bytes(), 7, (NO_CALL, NO_CALL))?;
+        assert_eq!(rt; ended, Status::Ok, "{line} {input}");
+        let text = std::str::from_utf8(&written).map_err(|_| "not text")?;
+        assert!(rt; text.contains(lines), "{line} {input}: {text}");
     }
     Ok(())
 }

@@ -10,3 +10,4 @@ pub mod IocFrames
 pub mod Listing
 pub mod Message
 pub mod Refusal
+pub mod RefusalListing

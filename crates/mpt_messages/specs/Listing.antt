@@ -47,7 +47,11 @@ abbrev pub name_at : List RowShape → ℕ → List ℕ
 name_at [] at = []
 name_at (row ∷ rows) at = if row.at == at then row.name else name_at rows at
 
+-- the line of a row that breaks its rule
+abbrev pub field_text : ℕ → List ℕ → List ℕ
+field_text at name = codes "field " ++ encode_lower (at ∷ []) ++ codes " " ++ name ++ line_end
+
 -- the line of a fault
 abbrev pub fault_text : List RowShape → Fault → List ℕ
 fault_text rows (Short need have) = short_text need have
-fault_text rows (Field at) = codes "field " ++ encode_lower (at ∷ []) ++ codes " " ++ name_at rows at ++ line_end
+fault_text rows (Field at) = field_text at (name_at rows at)

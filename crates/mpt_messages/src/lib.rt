@@ -13,6 +13,7 @@ mod ioc_reply;
 mod listing;
 mod message;
 mod numbers;
+mod refusal_listing;
 #[cfg(test)]
 mod tests;
 
@@ -22,6 +23,9 @@ pub use fault::MsgFault;
 pub use function::{Function, Kind};
 pub use host_ask::{HostAsk, host_frame};
 pub use ioc_reply::{IocReply, ioc_frame};
-pub use listing::{push_fault, push_heading, push_rows, push_rows_from, push_short, push_tail};
+pub use listing::{
+    push_fault, push_heading, push_listing, push_rows, push_rows_from, push_short, push_tail,
+};
 pub use message::{Message, encode, list_text, message_fits};
 pub use numbers::{Address, Handle, Smid};
+pub use refusal_listing::{push_reply_refusal, push_request_refusal};

@@ -3,7 +3,7 @@ ghost use Rattle.std.specs.Prelude.{◌≡◌, ◌≤◌, ◌<◌, ◌^◌, ◌+
 ghost use Rattle.mpi_layout.specs.Rows.{row_shape, values_fit};
 ghost use Rattle.byteorder.specs.Endian.{little_bytes};
 ghost use Rattle.mpt_text.specs.Words.{bytes_text};
-ghost use Rattle.mpt_messages.specs.Listing.{fault_text, heading_text, name_at, row_text, rows_text, short_text, tail_text, value_text};
+ghost use Rattle.mpt_messages.specs.Listing.{fault_text, field_text, heading_text, listing_text, name_at, row_text, rows_text, short_text, tail_text, value_text};
 
 use mpi_layout::{Fault, Form, Layout, Row};
 use mpt_text::{OutOfMemory, Text};
@@ -16,6 +16,21 @@ pub fn push_heading(text: &mut Text, name: &[u8], bytes: u64) -> Result<(), OutO
     text.push(b" ")?;
     text.push_decimal(bytes)?;
     text.push(b"\n")
+}
+
+/// Adds the listing of a message, descriptor or page that is its layout's rows and no more: its name
+/// and length, and a line for each row.
+pub fn push_listing<const N: usize>(
+    text: &mut Text,
+    name: &[u8],
+    layout: &Layout<N>,
+    values: &[u64; N],
+) -> Result<(), OutOfMemory>
+    requires { N ≤ 64 }
+    ensures { OnOk result (text.new ≡ text.old ++ listing_text name.now layout.now values.now) }
+{
+    push_heading(text, name, u64::from(layout.length()))?;
+    push_rows(text, layout, values)
 }
 
 /// Adds a line for each row: two digits of its offset, its name, and its value as `0x` and two
@@ -103,14 +118,19 @@ pub fn push_fault<const N: usize>(
 {
     match fault {
         Fault::Short { need, have } => push_short(text, need as u64, have as u64),
-        Fault::Field { at } => {
-            text.push(b"field ")?;
-            text.push_digits(&[at])?;
-            text.push(b" ")?;
-            text.push(row_name(layout.rows(), at).as_bytes())?;
-            text.push(b"\n")
-        }
+        Fault::Field { at } => push_field(text, at, row_name(layout.rows(), at)),
     }
+}
+
+/// Adds the line of a row that breaks its rule: `field OO Name` with its offset and name.
+pub(crate) fn push_field(text: &mut Text, at: u8, name: &str) -> Result<(), OutOfMemory>
+    ensures { OnOk result (text.new ≡ text.old ++ field_text at name.now) }
+{
+    text.push(b"field ")?;
+    text.push_digits(&[at])?;
+    text.push(b" ")?;
+    text.push(name.as_bytes())?;
+    text.push(b"\n")
 }
 
 /// Adds the line of bytes that are too few: `short need N have M`.

@@ -1,10 +1,9 @@
 //! All messages of the profile together.
 ghost use Rattle.std.specs.Prelude.{◌≡◌, ◌≤◌, ◌++◌, IsTrue, IfOk, OnOk, drop};
-ghost use Rattle.mpt_messages.specs.Listing.{listing_text};
 ghost use Rattle.mpt_messages.specs.Message.{MessageStands, message_fit, message_length, message_listing, scsi_reply_listing};
 
 use crate::event_listing::push_event;
-use crate::listing::{push_heading, push_rows, push_tail};
+use crate::listing::{push_heading, push_listing, push_rows, push_tail};
 use config_pages::{
     ConfigAsk, ConfigReply, config_ask_fits, config_reply_fits, encode_config_ask,
     encode_config_reply,
@@ -23,7 +22,6 @@ use ioc_msgs::{
     port_enable_reply_fits, port_facts_fits, port_facts_reply_fits, unit_control_fits,
     unit_control_reply_fits,
 };
-use mpi_layout::Layout;
 use mpt_text::{OutOfMemory, Text};
 use scsi_msgs::{
     ScsiIo, ScsiReply, TaskAsk, TaskReply, encode_scsi_io, encode_scsi_reply, encode_task_ask,
@@ -146,95 +144,86 @@ pub fn list_text(alloc: Global, m: &Message) -> Result<Text, OutOfMemory>
     Ok(text)
 }
 
-// Adds the listing of a message that is its layout's rows and no more.
-fn push_plain<const N: usize>(
-    text: &mut Text,
-    name: &[u8],
-    layout: &Layout<N>,
-    values: &[u64; N],
-) -> Result<(), OutOfMemory>
-    requires { N ≤ 64 }
-    ensures { OnOk result (text.new ≡ text.old ++ listing_text name.now layout.now values.now) }
-{
-    push_heading(text, name, u64::from(layout.length()))?;
-    push_rows(text, layout, values)
-}
-
-// Adds the listing of a request.
+// Adds the listing of the message.
 fn push_message(text: &mut Text, m: &Message) -> Result<(), OutOfMemory>
     ensures { OnOk result (text.new ≡ text.old ++ message_listing m.now) }
 {
     match m {
-        Message::ScsiIo(m) => push_plain(text, b"scsi-io", &ScsiIo::layout(), &m.values()),
-        Message::TaskAsk(m) => push_plain(text, b"task-mgmt", &TaskAsk::layout(), &m.values()),
-        Message::IocInit(m) => push_plain(text, b"ioc-init", &IocInit::layout(), &m.values()),
-        Message::IocFacts(m) => push_plain(text, b"ioc-facts", &IocFacts::layout(), &m.values()),
-        Message::ConfigAsk(m) => push_plain(text, b"config", &ConfigAsk::layout(), &m.values()),
-        Message::PortFacts(m) => push_plain(text, b"port-facts", &PortFacts::layout(), &m.values()),
-        Message::PortEnable(m) => push_plain(
+        Message::ScsiIo(m) => push_listing(text, b"scsi-io", &ScsiIo::layout(), &m.values()),
+        Message::TaskAsk(m) => push_listing(text, b"task-mgmt", &TaskAsk::layout(), &m.values()),
+        Message::IocInit(m) => push_listing(text, b"ioc-init", &IocInit::layout(), &m.values()),
+        Message::IocFacts(m) => push_listing(text, b"ioc-facts", &IocFacts::layout(), &m.values()),
+        Message::ConfigAsk(m) => push_listing(text, b"config", &ConfigAsk::layout(), &m.values()),
+        Message::PortFacts(m) => push_listing(
+            text,
+            b"port-facts",
+            &PortFacts::layout(),
+            &m.values(),
+        ),
+        Message::PortEnable(m) => push_listing(
             text,
             b"port-enable",
             &PortEnable::layout(),
             &m.values(),
         ),
-        Message::EventAsk(m) => push_plain(
+        Message::EventAsk(m) => push_listing(
             text,
             b"event-notification",
             &EventAsk::layout(),
             &m.values(),
         ),
-        Message::EventAck(m) => push_plain(text, b"event-ack", &EventAck::layout(), &m.values()),
-        Message::UnitControl(m) => push_plain(
+        Message::EventAck(m) => push_listing(text, b"event-ack", &EventAck::layout(), &m.values()),
+        Message::UnitControl(m) => push_listing(
             text,
             b"sas-unit-control",
             &UnitControl::layout(),
             &m.values(),
         ),
         Message::ScsiReply(m) => push_scsi_reply(text, m),
-        Message::TaskReply(m) => push_plain(
+        Message::TaskReply(m) => push_listing(
             text,
             b"task-mgmt-reply",
             &TaskReply::layout(),
             &m.values(),
         ),
-        Message::IocInitReply(m) => push_plain(
+        Message::IocInitReply(m) => push_listing(
             text,
             b"ioc-init-reply",
             &IocInitReply::layout(),
             &m.values(),
         ),
-        Message::IocFactsReply(m) => push_plain(
+        Message::IocFactsReply(m) => push_listing(
             text,
             b"ioc-facts-reply",
             &IocFactsReply::layout(),
             &m.values(),
         ),
-        Message::ConfigReply(m) => push_plain(
+        Message::ConfigReply(m) => push_listing(
             text,
             b"config-reply",
             &ConfigReply::layout(),
             &m.values(),
         ),
-        Message::PortFactsReply(m) => push_plain(
+        Message::PortFactsReply(m) => push_listing(
             text,
             b"port-facts-reply",
             &PortFactsReply::layout(),
             &m.values(),
         ),
-        Message::PortEnableReply(m) => push_plain(
+        Message::PortEnableReply(m) => push_listing(
             text,
             b"port-enable-reply",
             &PortEnableReply::layout(),
             &m.values(),
         ),
         Message::EventReply(m) => push_event(text, m),
-        Message::EventAckReply(m) => push_plain(
+        Message::EventAckReply(m) => push_listing(
             text,
             b"event-ack-reply",
             &EventAckReply::layout(),
             &m.values(),
         ),
-        Message::UnitControlReply(m) => push_plain(
+        Message::UnitControlReply(m) => push_listing(
             text,
             b"sas-unit-control-reply",
             &UnitControlReply::layout(),

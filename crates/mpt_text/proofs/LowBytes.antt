@@ -1,9 +1,7 @@
 -- The lowest bytes of a number among all its bytes.
-use Rattle.std.proofs.Common.{◌≡◌, ℕ, zero, suc, ◌+◌, ◌-◌, ◌≤◌, List, [], ◌∷◌, length, take, drop, refl, ap, sym, ◌∙◌, arith}
+use Rattle.std.proofs.Common.{◌≡◌, ℕ, zero, suc, ◌+◌, ◌-◌, ◌≤◌, ◌∷◌, take, drop, refl, ap, arith}
 use Rattle.std.specs.Int.{byte_at, bytes_high_first, bytes_low_first}
-use Rattle.std.proofs.lemmas.List.{take_all}
 use Rattle.byteorder.specs.Endian.{big_bytes, little_bytes}
-use Rattle.byteorder.specs.Numbers.{length-bytes_high_first}
 
 -- highest first: the last of them
 drop-bytes_high_first : (k n m x : ℕ) → k + n ≡ m → drop k (bytes_high_first m x) ≡ bytes_high_first n x

@@ -81,7 +81,8 @@ impl Text {
     }
 
     /// Adds the bytes text: `-` for none; for at least 16 equal bytes their decimal count, `*` and
-    /// the byte's two digits; else two digits for each byte.
+    /// the byte's two digits; else two digits for each byte. Where memory is wanting the text may have
+    /// a part of it.
     pub fn push_bytes(&mut self, bytes: &[u8]) -> Result<(), OutOfMemory>
         ensures ok { OnOk result (self.new ≡ self.old ++ bytes_text bytes.now) }
     {

@@ -1,5 +1,5 @@
 -- The length and the tail of a SCSI IO reply.
-use Rattle.std.proofs.Common.{◌≡◌, ℕ, zero, suc, ◌+◌, ◌-◌, ◌*◌, ◌<◌, ◌≤◌, Bool, true, false, IsTrue, ◌&&◌, eqb, nat_le, List, [], ◌∷◌, ◌++◌, length, take, drop, get_or, replicate, Some, refl, ap, subst, sym, ◌∙◌, arith}
+use Rattle.std.proofs.Common.{◌≡◌, ℕ, zero, suc, ◌+◌, ◌-◌, ◌*◌, ◌<◌, ◌≤◌, Bool, true, false, IsTrue, ◌&&◌, eqb, nat_le, List, [], ◌∷◌, ◌++◌, length, take, drop, get_or, replicate, Some, None, refl, ap, subst, sym, ◌∙◌, arith}
 use Rattle.std.specs.List.{list_all}
 use Rattle.std.proofs.lemmas.Bool.Decides.{nat_tests}
 use Rattle.std.proofs.lemmas.List.{take-append-drop, drop-drop, drop_at, length-take, length-drop, length-append}
@@ -68,6 +68,14 @@ too_short m other bytes stands less whole =
     let two = msg_length-read other bytes whole.fixed in
     let enough = whole.whole in
     omega arith
+
+-- bytes that stand for a reply aren't refused
+pub ScsiReplyStands-not_refused : (m : ScsiReply) (bytes : List ℕ) → ScsiReplyStands m bytes → scsi_reply_refusal bytes ≡ None
+ScsiReplyStands-not_refused m bytes stands =
+    let none = Stands-no_fault scsi_reply_layout (scsi_reply_values m) bytes stands.fixed in
+    let read = msg_length-read m bytes stands.fixed in
+    let whole = stands.whole in
+    rw (none, read) (grind (arith, nat_tests))
 
 -- the bytes stand for one reply alone
 pub ScsiReplyStands-same : (m n : ScsiReply) (bytes : List ℕ) → ScsiReplyStands m bytes → ScsiReplyStands n bytes → m ≡ n

@@ -3,7 +3,7 @@ ghost use Rattle.std.specs.Prelude.{◌≡◌, ◌≤◌, IsTrue, IfOk, MatchRes
 ghost use Rattle.mpi_layout.specs.Rows.{cut_from, first_fault, values_fit};
 ghost use Rattle.scsi_msgs.specs.ScsiIo.{ScsiIoStands, scsi_io_layout, scsi_io_values};
 
-use mpi_layout::{Fault, Layout, Row, Rule, bytes, fits, low, number, read, write};
+use mpi_layout::{Fault, Layout, Row, Rule, bytes, fits, low, number, one_of, read, write};
 
 // mpi2_init.h, MPI2_SCSI_IO_REQUEST.
 static SCSI_IO_ROWS: [Row; 38] = [
@@ -35,39 +35,15 @@ static SCSI_IO_ROWS: [Row; 38] = [
     number!(0x32, 2, "ApplicationTagTranslationMask", Rule::Zero),
     bytes!(0x34, 8, "LUN", Rule::Any),
     number!(0x3c, 1, "ControlLow", Rule::Any),
-    number!(
-        0x3d,
-        1,
-        "ControlAttribute",
-        Rule::OneOf {
-            values: [0, 1, 2, 0],
-            count: 3
-        }
-    ),
+    number!(0x3d, 1, "ControlAttribute", one_of!(0, 1, 2)),
     number!(0x3e, 1, "ControlHigh", Rule::Zero),
-    number!(
-        0x3f,
-        1,
-        "ControlDirection",
-        Rule::OneOf {
-            values: [0, 1, 2, 0],
-            count: 3
-        }
-    ),
+    number!(0x3f, 1, "ControlDirection", one_of!(0, 1, 2)),
     bytes!(0x40, 8, "CDB", Rule::Any),
     bytes!(0x48, 8, "CDB", Rule::Any),
     bytes!(0x50, 8, "CDB", Rule::Any),
     bytes!(0x58, 8, "CDB", Rule::Any),
     number!(0x60, 3, "SgeLength", Rule::Any),
-    number!(
-        0x63,
-        1,
-        "SgeFlags",
-        Rule::OneOf {
-            values: [0xd3, 0xd7, 0, 0],
-            count: 2
-        }
-    ),
+    number!(0x63, 1, "SgeFlags", one_of!(0xd3, 0xd7)),
     number!(0x64, 8, "SgeAddress", Rule::Any),
 ];
 

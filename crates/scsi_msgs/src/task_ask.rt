@@ -3,7 +3,7 @@ ghost use Rattle.std.specs.Prelude.{◌≡◌, ◌≤◌, IsTrue, IfOk, MatchRes
 ghost use Rattle.mpi_layout.specs.Rows.{cut_from, first_fault, values_fit};
 ghost use Rattle.scsi_msgs.specs.TaskAsk.{TaskAskStands, task_ask_layout, task_ask_values};
 
-use mpi_layout::{Fault, Layout, Row, Rule, bytes, fits, low, number, read, write};
+use mpi_layout::{Fault, Layout, Row, Rule, bytes, fits, low, number, one_of, read, write};
 
 // mpi2_init.h, MPI2_SCSI_TASK_MANAGE_REQUEST.
 static TASK_ASK_ROWS: [Row; 17] = [
@@ -11,15 +11,7 @@ static TASK_ASK_ROWS: [Row; 17] = [
     number!(0x02, 1, "ChainOffset", Rule::Zero),
     number!(0x03, 1, "Function", Rule::Is(0x01)),
     number!(0x04, 1, "Reserved", Rule::Zero),
-    number!(
-        0x05,
-        1,
-        "TaskType",
-        Rule::OneOf {
-            values: [1, 3, 5, 7],
-            count: 4
-        }
-    ),
+    number!(0x05, 1, "TaskType", one_of!(1, 3, 5, 7)),
     number!(0x06, 1, "Reserved", Rule::Zero),
     number!(0x07, 1, "MsgFlags", Rule::Zero),
     number!(0x08, 1, "VP_ID", Rule::Zero),

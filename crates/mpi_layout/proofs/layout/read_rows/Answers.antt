@@ -1,7 +1,7 @@
-use Rattle.std.proofs.Common.{Ok, refl, map, ◌≡◌, ◌<◌, ◌≤◌, ◌∙◌, ap, sym, length, Bool, false, arith}
+use Rattle.std.proofs.Common.{Ok, refl, map, ◌∙◌, ap, sym, length, arith}
 use Rattle.std.proofs.lemmas.List.{length-map}
 use Rattle.mpi_layout.specs.Rows.{row_shape}
-use Rattle.mpi_layout.proofs.Tiling.{LiesIn, code_row, code_room}
+use Rattle.mpi_layout.proofs.Tiling.{code_row, code_room}
 use Rattle.mpi_layout.proofs.Reading.{fields_fit, code_more, code_breaks, read_all, first_fault-field, first_fault-none}
 use Rattle.mpi_layout.proofs.layout.read_rows.Goals as goal
 

@@ -1,7 +1,7 @@
-use Rattle.std.proofs.Common.{IsTrue, ◌≡◌, ◌<◌, ◌≤◌, ◌∙◌, map, length, take, drop, subst, ap, sym, arith}
+use Rattle.std.proofs.Common.{IsTrue, ◌≡◌, ◌<◌, ◌≤◌, map, length, drop, subst, sym, arith}
 use Rattle.std.proofs.lemmas.List.{length-map}
 use Rattle.mpi_layout.specs.Rows.{Shape, Stands, row_shape, values_fit}
-use Rattle.mpi_layout.proofs.Tiling.{LiesIn, code_row, code_room}
+use Rattle.mpi_layout.proofs.Tiling.{code_row, code_room}
 use Rattle.mpi_layout.proofs.Writing.{code_small, code_written, written_all}
 use Rattle.mpi_layout.proofs.layout.write.Goals as goal
 

@@ -1,7 +1,7 @@
 use Rattle.std.proofs.Common.{IsTrue, subst, sym}
 use Rattle.mpi_layout.specs.Rows.{Shape, Stands, values_fit}
 use Rattle.mpi_layout.proofs.Moves.{read_stands}
-use Rattle.mpi_rings.specs.ReplyDescriptor.{address_layout, layout_of, reply_values}
+use Rattle.mpi_rings.specs.ReplyDescriptor.{address_layout, reply_values}
 use Rattle.mpi_rings.proofs.reply_descriptor.read_address.Goals as goal
 
 pub address_from-requires : goal.address_from-requires

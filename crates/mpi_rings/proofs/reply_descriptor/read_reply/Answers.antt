@@ -1,7 +1,7 @@
 use Rattle.std.proofs.Common.{◌≢◌, ◌∙◌, get_or, sym, arith}
 use Rattle.mpi_rings.specs.ReplyDescriptor.{success_layout, address_layout, unused_layout}
 use Rattle.mpi_rings.proofs.Flags.{success_fault, address_fault, unused_fault}
-use Rattle.mpi_rings.proofs.Replies.{ReadsReply, reads_reply}
+use Rattle.mpi_rings.proofs.Replies.{reads_reply}
 use Rattle.mpi_rings.proofs.reply_descriptor.read_reply.Goals as goal
 
 pub returns-in-0 : goal.returns-in-0

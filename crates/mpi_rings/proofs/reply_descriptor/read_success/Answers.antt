@@ -1,7 +1,7 @@
 use Rattle.std.proofs.Common.{IsTrue, subst, sym}
 use Rattle.mpi_layout.specs.Rows.{Shape, Stands, values_fit}
 use Rattle.mpi_layout.proofs.Moves.{read_stands}
-use Rattle.mpi_rings.specs.ReplyDescriptor.{success_layout, layout_of, reply_values}
+use Rattle.mpi_rings.specs.ReplyDescriptor.{success_layout, reply_values}
 use Rattle.mpi_rings.proofs.reply_descriptor.read_success.Goals as goal
 
 pub success_from-requires : goal.success_from-requires

@@ -1,4 +1,4 @@
-use Rattle.std.proofs.Common.{Ok, ap, IsTrue, List, ℕ, subst}
+use Rattle.std.proofs.Common.{Ok, ap, IsTrue, subst}
 use Rattle.mpi_layout.specs.Rows.{Shape, values_fit}
 use Rattle.mpi_layout.proofs.Moves.{Stands-same, read_stands}
 use Rattle.mpi_rings.specs.RequestDescriptor.{request_layout, request_values}

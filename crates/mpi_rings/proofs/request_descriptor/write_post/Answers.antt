@@ -1,4 +1,4 @@
-use Rattle.std.proofs.Common.{◌≡◌, IsTrue, subst, sym, ap, ◌∙◌, refl, lit<, lit≤}
+use Rattle.std.proofs.Common.{IsTrue, subst, sym, ap, lit<, lit≤}
 use Rattle.mpi_layout.specs.Rows.{Shape, values_fit}
 use Rattle.mpi_rings.specs.RequestDescriptor.{request_layout}
 use Rattle.mpi_rings.proofs.request_descriptor.write_post.Goals as goal

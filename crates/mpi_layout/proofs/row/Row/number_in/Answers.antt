@@ -1,4 +1,4 @@
-use Rattle.std.proofs.Common.{ap, ◌∙◌, ◌-◌, ◌≤◌, take, drop, length, arith}
+use Rattle.std.proofs.Common.{ap, ◌∙◌, ◌-◌, drop, length, arith}
 use Rattle.std.proofs.lemmas.List.{take_all, length-drop}
 use Rattle.byteorder.specs.Endian.{little_number}
 use Rattle.mpi_layout.proofs.Fields.{field_reads}

@@ -1,8 +1,3 @@
-use Rattle.std.proofs.Common.{◌≡◌, ◌+◌, ◌-◌, ◌≤◌, ◌<◌, ◌++◌, ◌∙◌, length, take, drop, ap, sym, refl, arith}
-use Rattle.std.proofs.lemmas.List.{drop_all, drop-drop, length-drop}
-use Rattle.std.proofs.lemmas.Slice.{take-put_mid_below, drop-put_mid}
-use Rattle.byteorder.specs.Endian.{little_bytes}
-use Rattle.mpi_layout.specs.Rows.{number_in}
 use Rattle.mpi_layout.proofs.Writing.{written_at}
 use Rattle.mpi_layout.proofs.row.Row.put.Goals as goal
 

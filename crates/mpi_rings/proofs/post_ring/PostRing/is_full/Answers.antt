@@ -1,4 +1,4 @@
-use Rattle.std.proofs.Common.{◌≡◌, get_or, rules, ap, ◌∙◌}
+use Rattle.std.proofs.Common.{get_or, ap, ◌∙◌}
 use Rattle.mpi_rings.proofs.Posting.{holds, is_full_test}
 use Rattle.mpi_rings.proofs.post_ring.PostRing.is_full.Goals as goal
 

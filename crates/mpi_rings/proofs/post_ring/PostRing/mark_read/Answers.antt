@@ -1,4 +1,4 @@
-use Rattle.std.proofs.Common.{◌<◌, ◌+◌, ◌%◌, length, refl, ap, subst, sym}
+use Rattle.std.proofs.Common.{◌<◌, ◌+◌, ◌%◌, length, ap, subst, sym}
 use Rattle.mpi_rings.specs.PostRing.{PostState}
 use Rattle.mpi_rings.proofs.Posting.{holds, holds_order, holds_waiting, read_leaves}
 use Rattle.mpi_rings.proofs.post_ring.PostRing.mark_read.Goals as goal

@@ -1,5 +1,4 @@
-use Rattle.std.proofs.Common.{◌≡◌, ◌%◌, ◌<◌, ◌∷◌, get_or, length, refl, sym, ap, ◌∙◌, arith}
-use Rattle.std.proofs.lemmas.Bool.Decides.{nat_tests}
+use Rattle.std.proofs.Common.{refl, arith}
 use Rattle.mpi_rings.specs.ReplyDescriptor.{success_layout}
 use Rattle.mpi_rings.proofs.Flags.{success_cut}
 use Rattle.mpi_rings.proofs.reply_descriptor.ReplyDescriptor.success_from.Goals as goal

@@ -1,4 +1,3 @@
-use Rattle.std.proofs.Common.{arith}
 use Rattle.mpi_rings.proofs.Fitting.{unused_fits}
 use Rattle.mpi_rings.proofs.reply_descriptor.ReplyDescriptor.unused_values.Goals as goal
 

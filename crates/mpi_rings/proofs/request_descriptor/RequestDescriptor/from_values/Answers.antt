@@ -1,4 +1,4 @@
-use Rattle.std.proofs.Common.{List, ℕ, ◌∷◌, [], ◌%◌, get_or, ap, arith}
+use Rattle.std.proofs.Common.{◌∷◌, [], ◌%◌, get_or, ap, arith}
 use Rattle.mpi_rings.specs.RequestDescriptor.{request_layout, request_values}
 use Rattle.mpi_rings.proofs.Flags.{request_cut}
 use Rattle.mpi_rings.proofs.request_descriptor.RequestDescriptor.from_values.Goals as goal
