@@ -5,7 +5,7 @@ ghost use Rattle.config_pages.specs.DevicePage0.{device_page0_layout, device_pag
 ghost use Rattle.mpt_messages.specs.DevicePage.{disk_page, expander_handle};
 
 use crate::blank;
-use crate::numbers::{Address, Handle};
+use crate::names::{Address, Handle};
 use config_pages::DevicePage0;
 
 // The device handle of expander 0; the others follow it.

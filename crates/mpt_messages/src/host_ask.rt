@@ -14,7 +14,7 @@ ghost use Rattle.mpt_messages.specs.Message.{MessageStands, message_fit, message
 use crate::blank;
 use crate::frame::write_frame;
 use crate::message::Message;
-use crate::numbers::{Handle, Smid};
+use crate::names::{Handle, Smid};
 use byteorder::{ByteOrder, LittleEndian};
 use config_pages::{ConfigAsk, PageForm, page_address};
 use event_msgs::{EventAck, EventAsk};

@@ -14,7 +14,7 @@ use crate::blank;
 use crate::device_pages::expander_handle;
 use crate::frame::write_frame;
 use crate::message::Message;
-use crate::numbers::{Handle, Smid};
+use crate::names::{Handle, Smid};
 use byteorder::{ByteOrder, LittleEndian};
 use config_pages::ConfigReply;
 use event_msgs::{EventData, EventReply, Topology, TopologyEntry};

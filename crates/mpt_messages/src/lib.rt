@@ -12,7 +12,7 @@ mod host_ask;
 mod ioc_reply;
 mod listing;
 mod message;
-mod numbers;
+mod names;
 mod refusal_listing;
 #[cfg(test)]
 mod tests;
@@ -27,5 +27,5 @@ pub use listing::{
     push_fault, push_heading, push_listing, push_rows, push_rows_from, push_short, push_tail,
 };
 pub use message::{Message, encode, list_text, message_fits};
-pub use numbers::{Address, Handle, Smid};
+pub use names::{Address, Handle, Smid};
 pub use refusal_listing::{push_reply_refusal, push_request_refusal};
