@@ -1,5 +1,5 @@
 -- The byte at 03 of bytes that stand for a message is its function's.
-use Rattle.std.proofs.Common.{◌≡◌, ℕ, ◌+◌, ◌*◌, ◌^◌, ◌<◌, ◌≤◌, Bool, true, List, [], ◌∷◌, length, get_or, slice_index, Option, Some, None, refl, ap, sym, ◌∙◌, lit<, lit≤, subst, arith}
+use Rattle.std.proofs.Common.{◌≡◌, ℕ, ◌<◌, ◌≤◌, true, List, [], length, get_or, slice_index, Option, Some, None, refl, ap, ◌∙◌, lit<, lit≤, subst, arith}
 use Rattle.std.specs.Option.{option_map}
 use Rattle.std.proofs.lemmas.Bool.Decides.{nat_tests}
 use Rattle.mpi_layout.specs.declared.row.Form.TheVariants.{Number}

@@ -1,12 +1,12 @@
 -- A listing as it grows row by row.
-use Rattle.std.proofs.Common.{◌≡◌, ℕ, ◌+◌, ◌^◌, ◌<◌, ◌≤◌, IsTrue, List, [], ◌∷◌, ◌++◌, length, take, get_or, map, min, subst, refl, ap, sym, ◌∙◌, arith}
+use Rattle.std.proofs.Common.{◌≡◌, ℕ, ◌+◌, ◌<◌, ◌≤◌, List, ◌++◌, length, take, get_or, map, ap, sym, ◌∙◌, arith}
 use Rattle.std.specs.List.{flat_map, zip}
 use Rattle.std.proofs.Math.ListN.{get_or-map}
 use Rattle.std.proofs.lemmas.List.{flat_map_more, length-map, take_all, take_more}
 use Rattle.std.proofs.lemmas.Slice.Zip.{get_or-zip, length-zip}
 use Rattle.mpi_layout.specs.declared.row.Row.{Row}
 use Rattle.mpi_layout.specs.Rows.{RowShape, Shape, IsTiled, row_shape}
-use Rattle.mpi_layout.proofs.Tiling.{LiesIn, code_row}
+use Rattle.mpi_layout.proofs.Tiling.{code_row}
 use Rattle.mpt_messages.specs.Listing.{row_text, rows_text}
 
 abbrev pair_text : ℕ → RowShape × ℕ → List ℕ

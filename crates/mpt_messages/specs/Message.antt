@@ -1,6 +1,6 @@
 -- All messages of the profile together: the bytes that stand for one, whether some do, its length and its listing.
-use Rattle.std.specs.Prelude.{◌≡◌, ℕ, ◌-◌, Bool, Option, Some, None, List, [], ◌∷◌, ◌++◌, take, codes}
-use Rattle.mpi_layout.specs.Rows.{Shape, values_fit}
+use Rattle.std.specs.Prelude.{ℕ, ◌-◌, Bool, Option, Some, None, List, ◌++◌, take, codes}
+use Rattle.mpi_layout.specs.Rows.{values_fit}
 use Rattle.mpt_messages.specs.declared.message.Message.{Message}
 use Rattle.mpt_messages.specs.declared.message.Message.TheVariants as message
 use Rattle.mpt_messages.specs.declared.function.Function.{Function}

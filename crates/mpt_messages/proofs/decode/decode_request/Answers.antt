@@ -1,9 +1,8 @@
-use Rattle.std.proofs.Common.{◌≡◌, Bool, true, false, not, Some, refl, ap, sym, ◌∙◌, arith}
+use Rattle.std.proofs.Common.{◌≡◌, true, false, not, Some, refl, ap, sym, ◌∙◌, arith}
 use denote.Enum.Bare.{sameb}
 use Rattle.mpt_messages.specs.contracts.function.Kind.{the_type}
 use Rattle.mpt_messages.specs.declared.function.Kind.{Kind}
 use Rattle.mpt_messages.specs.declared.function.Kind.TheVariants as kind
-use Rattle.mpt_messages.specs.declared.function.Function.{Function}
 use Rattle.mpt_messages.specs.Function.{kind_of}
 use Rattle.mpt_messages.proofs.FunctionByte.{request_known, same_some}
 use Rattle.mpt_messages.proofs.decode.decode_request.Goals as goal

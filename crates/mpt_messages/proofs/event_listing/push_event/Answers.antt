@@ -1,4 +1,4 @@
-use Rattle.std.proofs.Common.{◌≡◌, ◌*◌, ◌++◌, List, ℕ, OnOk, codes, subst, ap, ◌∙◌}
+use Rattle.std.proofs.Common.{◌≡◌, ◌++◌, OnOk, codes, subst, ap, ◌∙◌}
 use Rattle.mpi_layout.specs.Rows.{Shape}
 use Rattle.event_msgs.specs.EventReply.{event_reply_layout, event_reply_length, event_reply_values}
 use Rattle.mpt_messages.specs.Listing.{heading_text, rows_text}

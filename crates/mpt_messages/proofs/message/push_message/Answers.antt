@@ -1,7 +1,4 @@
-use Rattle.std.proofs.Common.{◌≡◌, ◌++◌, List, ℕ, OnOk, codes, subst, sym}
-use Rattle.mpi_layout.specs.Rows.{Shape}
-use Rattle.mpt_messages.specs.declared.message.Message.{Message}
-use Rattle.mpt_messages.specs.Listing.{listing_text}
+use Rattle.std.proofs.Common.{◌≡◌, ◌++◌, OnOk, codes, subst, sym}
 use Rattle.mpt_messages.specs.Message.{message_listing}
 use Rattle.mpt_messages.proofs.Arms.{listed_arm}
 use Rattle.mpt_messages.proofs.message.push_message.Goals as goal

@@ -1,4 +1,4 @@
-use Rattle.std.proofs.Common.{◌≡◌, ◌-◌, ◌++◌, List, ℕ, OnOk, codes, take, subst, ap, ◌∙◌}
+use Rattle.std.proofs.Common.{◌≡◌, ◌++◌, OnOk, codes, subst, ap, ◌∙◌}
 use Rattle.mpi_layout.specs.Rows.{Shape}
 use Rattle.scsi_msgs.specs.ScsiReply.{scsi_reply_layout, scsi_reply_length, scsi_reply_values}
 use Rattle.mpt_messages.specs.Listing.{heading_text, rows_text, tail_text}
