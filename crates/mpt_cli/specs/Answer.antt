@@ -1,6 +1,6 @@
 -- What is printed of an input that was read whole.
-use Rattle.std.specs.Prelude.{◌≡◌, ℕ, ◌<◌, ◌≤◌, List, ◌++◌, codes, Option, Some, None, Result, Ok, Err}
-use Rattle.hex.specs.declared.error.FromHexError.{FromHexError}
+use Rattle.std.specs.Prelude.{◌≡◌, ℕ, ◌<◌, ◌≤◌, List, ◌++◌, codes, Option, Some, None}
+use Rattle.mpt_script.specs.Hexadecimal.{hexadecimal}
 use Rattle.mpi_layout.specs.Rows.{Shape, first_fault}
 use Rattle.mpi_layout.specs.declared.fault.Fault.{Fault}
 use Rattle.mpi_rings.specs.declared.reply_descriptor.ReplyDescriptor.{ReplyDescriptor}
@@ -16,14 +16,12 @@ use Rattle.mpt_messages.specs.Message.{MessageStands, message_listing, reply_fun
 use Rattle.mpt_messages.specs.Refusal.{IsOfKind, reply_refusal, request_refusal}
 use Rattle.mpt_messages.specs.RefusalListing.{reply_refusal_text, request_refusal_text}
 use Rattle.mpt_messages.specs.Listing.{fault_text, line_end}
-use Rattle.mpt_cli.specs.declared.command.Command.{Command}
-use Rattle.mpt_cli.specs.declared.command.Command.TheVariants.{Decode}
 use Rattle.mpt_cli.specs.declared.command.Decoded.{Decoded}
 use Rattle.mpt_cli.specs.declared.command.Decoded.TheVariants as decoded
 use Rattle.mpt_cli.specs.declared.status.Status.{Status}
 use Rattle.mpt_cli.specs.declared.status.Status.TheVariants as status
 use Rattle.mpt_cli.specs.Descriptors.{page_listing, reply_descriptor_listing, request_descriptor_listing}
-use Rattle.mpt_cli.specs.Input.{hexadecimal, line_count}
+use Rattle.mpt_cli.specs.Input.{line_count}
 
 -- the answer to bytes as a request of this kind: the listing of the request that they stand for, or the line of their first refusal
 abbrev pub IsRequestAnswer : Kind → List ℕ → Status → List ℕ → Type 0
@@ -64,12 +62,12 @@ IsBytesAnswer decoded.Answer bytes ended text = IsReplyDescriptorAnswer bytes en
 IsBytesAnswer decoded.Page0 bytes ended text = IsPageAnswer bytes ended text
 
 -- the answer to hexadecimal input
-abbrev pub IsHexAnswer : Decoded → Result (List ℕ) FromHexError → Status → List ℕ → Type 0
-IsHexAnswer what (Err error) status.Refused text = text ≡ codes "refused line 1 hex" ++ line_end
-IsHexAnswer what (Err error) _ text = ⊥
-IsHexAnswer what (Ok bytes) ended text = IsBytesAnswer what bytes ended text
+abbrev pub IsHexAnswer : Decoded → Option (List ℕ) → Status → List ℕ → Type 0
+IsHexAnswer what None status.Refused text = text ≡ codes "refused line 1 hex" ++ line_end
+IsHexAnswer what None _ text = ⊥
+IsHexAnswer what (Some bytes) ended text = IsBytesAnswer what bytes ended text
 
--- the answer to a command's whole input
-abbrev pub IsAnswer : Command → List ℕ → Status → List ℕ → Type 0
-IsAnswer (Decode what) input status.TooLong text = (20000 < line_count input) × (text ≡ codes "too long" ++ line_end)
-IsAnswer (Decode what) input ended text = (line_count input ≤ 20000) × IsHexAnswer what (hexadecimal input) ended text
+-- the answer to the whole input of `decode`
+abbrev pub IsAnswer : Decoded → List ℕ → Status → List ℕ → Type 0
+IsAnswer what input status.TooLong text = (20000 < line_count input) × (text ≡ codes "too long" ++ line_end)
+IsAnswer what input ended text = (line_count input ≤ 20000) × IsHexAnswer what (hexadecimal input) ended text

@@ -1,9 +1,10 @@
 -- The words of the command line.
 use Rattle.std.specs.Prelude.{ℕ, List, [], ◌∷◌, bytes_eq, Option, Some, None, codes, if◌then◌else◌}
 use Rattle.std.specs.Option.{option_map}
+use Rattle.mpt_lines.specs.Numbers.{word_number}
 use Rattle.mpt_messages.specs.declared.function.Kind.TheVariants as kind
 use Rattle.mpt_cli.specs.declared.command.Command.{Command}
-use Rattle.mpt_cli.specs.declared.command.Command.TheVariants.{Decode}
+use Rattle.mpt_cli.specs.declared.command.Command.TheVariants.{Decode, Gen}
 use Rattle.mpt_cli.specs.declared.command.Decoded.{Decoded}
 use Rattle.mpt_cli.specs.declared.command.Decoded.TheVariants as decoded
 
@@ -22,5 +23,8 @@ decoded_of word =
 
 -- the command that the words name
 abbrev pub command_of : List (List ℕ) → Option Command
-command_of (first ∷ second ∷ []) = if bytes_eq first (codes "decode") then option_map Decode (decoded_of second) else None
+command_of (first ∷ second ∷ []) =
+    if bytes_eq first (codes "decode") then option_map Decode (decoded_of second)
+    else if bytes_eq first (codes "gen") then option_map Gen (word_number second)
+    else None
 command_of _ = None

@@ -4,7 +4,10 @@ use Rattle.std.specs.Io.KnownBytes.{Appends, IsAtEnd, Keeps}
 use Rattle.mpt_outside.specs.Counts.{Rose}
 use Rattle.mpt_outside.specs.Reading.{Came}
 use Rattle.mpt_messages.specs.Listing.{line_end}
+use Rattle.mpt_script.specs.Generator.{generated}
+use Rattle.mpt_script.specs.Printed.{schedule_text}
 use Rattle.mpt_cli.specs.declared.command.Command.{Command}
+use Rattle.mpt_cli.specs.declared.command.Command.TheVariants.{Decode, Gen}
 use Rattle.mpt_cli.specs.declared.status.Status.{Status}
 use Rattle.mpt_cli.specs.declared.status.Status.TheVariants as status
 use Rattle.mpt_cli.specs.Answer.{IsAnswer}
@@ -45,13 +48,18 @@ Gave o bytes = Came o.left o.left' o.given o.given' bytes
 abbrev pub IsInput : Outside → List ℕ → Type 0
 IsInput o bytes = Gave o bytes × IsAtEnd o.left' × (length bytes ≤ 33554432)
 
+-- nothing came from the source
+abbrev pub ReadsNothing : Outside → Type 0
+ReadsNothing o = (o.left' ≡ o.left) × (o.given' ≡ o.given) × (o.read_faults' ≡ o.read_faults)
+
 -- the text that goes with a status, and the status's cause
 abbrev pub IsDue : Option Command → Outside → Status → List ℕ → Type 0
-IsDue None o status.Usage text = (text ≡ usage_text) × (o.left' ≡ o.left) × (o.given' ≡ o.given) × (o.read_faults' ≡ o.read_faults)
-IsDue (Some command) o status.ReadFault text = (text ≡ codes "read fault" ++ line_end) × Rose o.read_faults o.read_faults'
-IsDue (Some command) o status.TooLong text = (input : List ℕ) × Gave o input × (((length input ≡ 33554433) × (text ≡ codes "too long" ++ line_end)) ⊎ (IsInput o input × IsAnswer command input status.TooLong text))
-IsDue (Some command) o status.Refused text = (input : List ℕ) × IsInput o input × IsAnswer command input status.Refused text
-IsDue (Some command) o status.Ok text = (input : List ℕ) × IsInput o input × IsAnswer command input status.Ok text
+IsDue None o status.Usage text = (text ≡ usage_text) × ReadsNothing o
+IsDue (Some (Decode what)) o status.ReadFault text = (text ≡ codes "read fault" ++ line_end) × Rose o.read_faults o.read_faults'
+IsDue (Some (Decode what)) o status.TooLong text = (input : List ℕ) × Gave o input × (((length input ≡ 33554433) × (text ≡ codes "too long" ++ line_end)) ⊎ (IsInput o input × IsAnswer what input status.TooLong text))
+IsDue (Some (Decode what)) o status.Refused text = (input : List ℕ) × IsInput o input × IsAnswer what input status.Refused text
+IsDue (Some (Decode what)) o status.Ok text = (input : List ℕ) × IsInput o input × IsAnswer what input status.Ok text
+IsDue (Some (Gen number)) o status.Ok text = (text ≡ schedule_text 0 (generated number)) × ReadsNothing o
 IsDue _ o _ text = ⊥
 
 -- the writing of a text with its status: all of it was taken, or a part at its front, and then the sink failed
@@ -59,6 +67,12 @@ abbrev pub Writes : (taken taken' : Option (List ℕ)) (faults faults' : ℕ) �
 Writes taken taken' faults faults' due text ended =
     ((ended ≡ due) × Appends taken taken' text)
     ⊎ ((ended ≡ status.WriteFault) × Rose faults faults' × (count : ℕ) × (count < length text) × Appends taken taken' (take count text))
+
+-- the run of `gen`: it ends for want of memory, with nothing written, or with the writing of the number's schedule
+abbrev pub Generates : (taken taken' : Option (List ℕ)) (faults faults' number : ℕ) → Status → Type 0
+Generates taken taken' faults faults' number ended =
+    ((ended ≡ status.OutOfMemory) × Keeps taken taken')
+    ⊎ Writes taken taken' faults faults' status.Ok (schedule_text 0 (generated number)) ended
 
 -- a run ends for want of memory, with nothing written, or with the writing of a text that is due
 abbrev pub RunsTo : Option Command → Outside → Status → Type 0

@@ -2,10 +2,11 @@
 ghost use Rattle.std.specs.Prelude.{◌≡◌, IfOk};
 ghost use Rattle.mpt_cli.specs.Answer.{IsAnswer};
 
-use crate::command::Command;
+use crate::command::Decoded;
 use crate::decode::answer_to_bytes;
-use crate::input::{HexFault, count_lines, read_hex};
+use crate::input::count_lines;
 use crate::status::Status;
+use mpt_script::{ScriptFault, read_hex};
 use mpt_text::{OutOfMemory, Text};
 use std::alloc::Global;
 
@@ -32,19 +33,18 @@ impl Answer {
     }
 }
 
-/// The answer to a command's whole input.
-pub fn answer_to(alloc: Global, command: Command, input: &[u8]) -> Result<Answer, OutOfMemory>
-    ensures { IfOk result (λ a. IsAnswer command input.now a.status a.text) }
+/// The answer to the whole input of `decode`.
+pub fn answer_to(alloc: Global, decoded: Decoded, input: &[u8]) -> Result<Answer, OutOfMemory>
+    ensures { IfOk result (λ a. IsAnswer decoded input.now a.status a.text) }
 {
     if count_lines(input) > MOST_LINES {
         return Answer::with_line(alloc, Status::TooLong, b"too long\n");
     }
-    let Command::Decode(decoded) = command;
     match read_hex(alloc, input) {
         Ok(bytes) => answer_to_bytes(alloc, decoded, &bytes),
-        Err(HexFault::NotHex) => {
+        Err(ScriptFault::At { .. }) => {
             Answer::with_line(alloc, Status::Refused, b"refused line 1 hex\n")
         }
-        Err(HexFault::OutOfMemory) => Err(OutOfMemory),
+        Err(ScriptFault::OutOfMemory) => Err(OutOfMemory),
     }
 }

@@ -2,6 +2,7 @@
 ghost use Rattle.std.specs.Prelude.{◌≡◌, map, string_bytes};
 ghost use Rattle.mpt_cli.specs.Command.{command_of, decoded_of};
 
+use mpt_lines::word_number;
 use mpt_messages::Kind;
 
 /// What `decode` reads.
@@ -43,6 +44,8 @@ impl Decoded {
 pub enum Command {
     /// `decode <kind>`: the fields of one message, descriptor or page.
     Decode(Decoded),
+    /// `gen <number>`: the schedule of this number.
+    Gen(u64),
 }
 
 impl Command {
@@ -53,6 +56,9 @@ impl Command {
         match words {
             [first, second] if first.as_str() == "decode" => {
                 Decoded::from_word(second.as_str()).map(Command::Decode)
+            }
+            [first, second] if first.as_str() == "gen" => {
+                word_number(second.as_bytes()).map(Command::Gen)
             }
             _ => None,
         }

@@ -1,12 +1,16 @@
 //! The whole run, from words to status.
-ghost use Rattle.std.specs.Prelude.{map, string_bytes};
+ghost use Rattle.std.specs.Prelude.{◌≡◌, map, string_bytes, IfOk, Some};
+ghost use Rattle.mpt_script.specs.Generator.{generated};
+ghost use Rattle.mpt_script.specs.Printed.{schedule_text};
 ghost use Rattle.mpt_cli.specs.Command.{command_of};
-ghost use Rattle.mpt_cli.specs.Run.{RunsTo, Writes};
+ghost use Rattle.mpt_cli.specs.Run.{Generates, RunsTo, Writes};
 
 use crate::answer::answer_to;
-use crate::command::Command;
+use crate::command::{Command, Decoded};
 use crate::status::Status;
 use mpt_outside::{Failed, ReadFault, Sink, Source, read_all, write_all};
+use mpt_script::{generate, print_schedule};
+use mpt_text::{OutOfMemory, Text};
 use std::alloc::Global;
 
 /// The most bytes that an input may have.
@@ -35,19 +39,59 @@ pub fn run<S: Source, K: Sink>(
       write_faults' = K.faults sink.new;
     }) result }
 {
-    let Some(command) = Command::from_words(words) else {
-        return finish(sink, Status::Usage, USAGE);
-    };
+    match Command::from_words(words) {
+        None => finish(sink, Status::Usage, USAGE),
+        Some(Command::Decode(decoded)) => run_decode(alloc, decoded, source, sink),
+        Some(Command::Gen(number)) => run_gen(alloc, number, sink),
+    }
+}
+
+// Reads the whole input and writes its listing or its refusal.
+fn run_decode<S: Source, K: Sink>(
+    alloc: Global,
+    decoded: Decoded,
+    source: &mut S,
+    sink: &mut K,
+) -> Status
+    ensures { RunsTo (Some (Command.Decode decoded)) (record {
+      left = S.left source.old;
+      left' = S.left source.new;
+      given = S.given source.old;
+      given' = S.given source.new;
+      read_faults = S.faults source.old;
+      read_faults' = S.faults source.new;
+      taken = K.taken sink.old;
+      taken' = K.taken sink.new;
+      write_faults = K.faults sink.old;
+      write_faults' = K.faults sink.new;
+    }) result }
+{
     let input = match read_all(alloc, source, MOST_BYTES) {
         Ok(input) => input,
         Err(ReadFault::Failed) => return finish(sink, Status::ReadFault, b"read fault\n"),
         Err(ReadFault::TooLong) => return finish(sink, Status::TooLong, b"too long\n"),
         Err(ReadFault::OutOfMemory) => return Status::OutOfMemory,
     };
-    match answer_to(alloc, command, &input) {
+    match answer_to(alloc, decoded, &input) {
         Ok(answer) => finish(sink, answer.status, answer.text.as_bytes()),
         Err(_) => Status::OutOfMemory,
     }
+}
+
+// Writes the schedule of the number.
+fn run_gen<K: Sink>(alloc: Global, number: u64, sink: &mut K) -> Status
+    ensures { Generates (K.taken sink.old) (K.taken sink.new) (K.faults sink.old) (K.faults sink.new) number result }
+{
+    match generated_text(alloc, number) {
+        Ok(text) => finish(sink, Status::Ok, text.as_bytes()),
+        Err(_) => Status::OutOfMemory,
+    }
+}
+
+fn generated_text(alloc: Global, number: u64) -> Result<Text, OutOfMemory>
+    ensures { IfOk result (λ text. text ≡ schedule_text 0 (generated number)) }
+{
+    print_schedule(alloc, &generate(alloc, number)?)
 }
 
 // Writes the text. The status is WriteFault where the sink fails, and else the given one.

@@ -256,6 +256,11 @@ fn lists_parts(rt: HostRuntime) -> Result<(), Fail> {
             CHECK_CONDITION,
             "\n18 SenseCount 0x00000012\n",
         ),
+        (
+            "gen 0",
+            "",
+            "\ndrain\nsubmit 1 5000c50000000005 write 4 1 01\n",
+        ),
         ("decode reply", CHECK_CONDITION, "\n20 TaskTag 0x0001\n"),
         ("decode reply", CHECK_CONDITION, "\n28 Tail -\n"),
         ("decode reply", CHECK_CONDITION, "scsi-io-reply 40\n"),

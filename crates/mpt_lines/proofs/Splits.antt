@@ -11,9 +11,9 @@ from_none : (p : ℕ → Bool) (k : ℕ) (xs : List ℕ) → position_from p k x
 from_none p k [] e = refl
 from_none p k (x ∷ xs) e = passed (p x) refl e (from_none p (k + 1) xs)
   where
-  passed : (b : Bool) → p x ≡ b → cond b (Some k) (position_from p (k + 1) xs) ≡ None → (position_from p (k + 1) xs ≡ None → slice_split p xs ≡ xs ∷ []) → slice_split p (x ∷ xs) ≡ (x ∷ xs) ∷ []
-  passed true is e others = cc
-  passed false is e others = rw is (rw (others e) refl)
+    passed : (b : Bool) → p x ≡ b → cond b (Some k) (position_from p (k + 1) xs) ≡ None → (position_from p (k + 1) xs ≡ None → slice_split p xs ≡ xs ∷ []) → slice_split p (x ∷ xs) ≡ (x ∷ xs) ∷ []
+    passed true is e others = cc
+    passed false is e others = rw is (rw (others e) refl)
 
 -- without a separator the text is the one piece
 pub pieces_without : (c : ℕ) (text : List ℕ) → position_from (λ byte. byte == c) 0 text ≡ None → pieces c text ≡ text ∷ []

@@ -1,6 +1,7 @@
 -- The words of a line that name a value, and the ranges of numbers. Each reading of a word gives its
 -- value, or the cause why the line is refused.
-use Rattle.std.specs.Prelude.{ℕ, ◌+◌, ◌-◌, ◌*◌, ◌^◌, ◌/◌, ◌%◌, ◌==◌, ◌&&◌, ◌||◌, not, min, nat_le, Bool, if◌then◌else◌, List, [], ◌∷◌, length, fold, Result, Ok, Err, slice_index}
+use Rattle.std.specs.Prelude.{ℕ, ◌+◌, ◌-◌, ◌*◌, ◌^◌, ◌/◌, ◌%◌, ◌==◌, ◌&&◌, ◌||◌, not, min, nat_le, Bool, if◌then◌else◌, List, [], ◌∷◌, length, fold, Option, Result, Ok, Err, slice_index}
+use Rattle.std.specs.Result.{result_ok}
 use Rattle.std.specs.Int.{from_be_bytes, w64}
 use Rattle.std.specs.List.{list_all}
 use Rattle.hex.specs.declared.error.FromHexError.{FromHexError}
@@ -38,6 +39,10 @@ number word = if is_numeral word then Ok (min (decimal_value word) too_great) el
 -- a number, if it is in its range
 abbrev pub within : ℕ → ℕ → ℕ → Result ℕ Cause
 within low high value = if nat_le low value && nat_le value high then Ok value else Err Range
+
+-- the number below 2^64 that a word names
+abbrev pub word_number : List ℕ → Option ℕ
+word_number word = result_ok (number word >>= within 0 (2 ^ 64 - 1))
 
 -- the bytes that hexadecimal digits name, or the form's fault
 abbrev pub formed : Result (List ℕ) FromHexError → Result (List ℕ) Cause

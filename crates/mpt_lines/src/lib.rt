@@ -8,5 +8,6 @@ mod pieces;
 mod statement;
 
 pub use fault::{Cause, ScriptFault};
+pub use numbers::word_number;
 pub use pieces::Pieces;
 pub use statement::{PlanStatement, Statement, plan_line, schedule_line};

@@ -1,7 +1,7 @@
 //! The words of a line that name a value, and the ranges of numbers.
 ghost use Rattle.std.specs.Prelude.{◌≡◌, ◌≤◌, ◌==◌, ◌/◌, ◌<◌, ◌^◌, IfOk, length};
 ghost use Rattle.std.specs.List.{list_all};
-ghost use Rattle.mpt_lines.specs.Numbers.{address, byte, cdb, checked_bytes, is_decimal_digit, is_numeral, number, within};
+ghost use Rattle.mpt_lines.specs.Numbers.{address, byte, cdb, checked_bytes, is_decimal_digit, is_numeral, number, within, word_number};
 ghost use Rattle.hex.specs.Hex.{is_hex_digit};
 
 use crate::fault::Cause;
@@ -22,6 +22,14 @@ pub(crate) fn number(word: &[u8]) -> Result<u128, Cause>
         value = (value * 10 + (*digit as u128).saturating_sub(48)).min(TOO_GREAT);
     }
     Ok(value)
+}
+
+/// The number below 2^64 that a word names in decimal, or none where the word has a sign, leading
+/// zeros or no number, or the number is greater.
+pub fn word_number(word: &[u8]) -> Option<u64>
+    ensures { result ≡ word_number word.now }
+{
+    within(0, u64::MAX, number(word).ok()?).ok()
 }
 
 // Whether the word is decimal digits without leading zeros.
