@@ -143,16 +143,8 @@ IsEntry (entry.AbortEnd n outcome) = IsNumber n
 IsEntry (entry.TargetEnd address outcome) = (address < 256 ^ 8) × IsTargetOutcome outcome
 IsEntry entry.ResetDone = Unit {0}
 
--- ---- the law
-
--- reading an entry's line gives the entry
-abbrev pub ReadsBack : Entry → Type 0
-ReadsBack e = IsEntry e → entry_read (entry_line e) ≡ Some e
-
--- entries with the same line are the same
-abbrev pub IsToldApart : Entry → Entry → Type 0
-IsToldApart one other = IsEntry one → IsEntry other → entry_line one ≡ entry_line other → one ≡ other
-
--- traces with the same lines are the same
-abbrev pub AreToldApart : List Entry → List Entry → Type 0
-AreToldApart one other = All IsEntry one → All IsEntry other → entry_lines one ≡ entry_lines other → one ≡ other
+-- an entry whose item, if it has one, is of its lane's kind
+abbrev pub MovesItsKind : Entry → Type 0
+MovesItsKind (entry.Put lane item) = IsOfLane lane item
+MovesItsKind (entry.Take lane item) = IsOfLane lane item
+MovesItsKind _ = Unit {0}
