@@ -1,6 +1,5 @@
 -- Entries read back, by their words.
-use Rattle.std.specs.Prelude.{◌≡◌, ℕ, ◌^◌, ◌<◌, ◌-◌, if◌then◌else◌, Option, Some, None, option_map, List, [], ◌∷◌, codes, length, take}
-use Rattle.std.specs.List.{All}
+use Rattle.std.specs.Prelude.{ℕ, ◌^◌, ◌<◌, ◌-◌, if◌then◌else◌, Option, Some, None, option_map, List, [], ◌∷◌, codes, length, take}
 use Rattle.mpt_trace.specs.declared.entry.Entry.{Entry}
 use Rattle.mpt_trace.specs.declared.entry.Entry.TheVariants as entry
 use Rattle.mpt_trace.specs.declared.item.Item.{Item}
@@ -13,7 +12,6 @@ use Rattle.mpt_trace.specs.declared.outcome.TargetOutcome.TheVariants as target
 use Rattle.mpt_trace.specs.declared.refusal.Refusal.{Refusal}
 use Rattle.mpt_trace.specs.declared.refusal.RefusedCall.{RefusedCall}
 use Rattle.mpt_trace.specs.declared.refusal.RefusedCall.TheVariants as call
-use Rattle.mpt_trace.specs.Entries.{entry_line, entry_lines}
 use Rattle.mpt_trace.specs.Reading.{IsNumber, hexadecimal, is_word, number, words}
 use Rattle.mpt_trace.specs.ReadingSchedule.{IsChoice, IsInput, choice_in, input_in}
 use Rattle.mpt_trace.specs.ReadingItems.{IsItem, IsLane, IsOfLane, IsOutcome, answer_in, cause_in, moved_in, refused_in}

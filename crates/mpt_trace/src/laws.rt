@@ -1,13 +1,13 @@
 //! What the texts and the commands promise together.
 ghost use Rattle.std.specs.Prelude.{◌≡◌, Some};
 ghost use Rattle.std.specs.List.{All};
-ghost use Rattle.mpt_trace.specs.Command.{FitsItsCdb, NamesItsLength};
+ghost use Rattle.mpt_trace.specs.Command.{NamesItsLength};
 ghost use Rattle.mpt_trace.specs.Entries.{entry_line, entry_lines};
 ghost use Rattle.mpt_trace.specs.ReadingEntries.{MovesItsKind, entry_read};
 
 use crate::command_form::CommandForm;
 use crate::entry::Entry;
-use crate::ranges::{entries_fit, entry_fits};
+use crate::ranges::{entries_fit, entry_fits, form_fits_its_cdb};
 
 /// Reading an entry's line gives the entry, where its item, if it has one, is of its lane's kind.
 pub fn line_reads_back(e: &Entry)
@@ -35,5 +35,7 @@ pub fn lines_tell_traces_apart(one: &[Entry], other: &[Entry])
 /// The length of the command that a form names is the one that a disk reads from its CDB
 /// (`scsi_disk::length_of`). A form by its bytes names any length.
 pub fn cdb_names_the_length(form: &CommandForm)
-    ensures { FitsItsCdb form.now → NamesItsLength form.now }
-{}
+    ensures { NamesItsLength form.now }
+{
+    form_fits_its_cdb(form);
+}

@@ -1,8 +1,8 @@
 //! The numbers of every value fit the words that print them: a number is as great as its type allows
 //! at most. Reading a number is all that each function does, since its range comes with its type.
-ghost use Rattle.std.specs.Prelude.{length, ◌≤◌, Option};
 ghost use Rattle.std.specs.List.{All};
 ghost use Rattle.hex.specs.Hex.{IsBytes};
+ghost use Rattle.mpt_trace.specs.Command.{FitsItsCdb};
 ghost use Rattle.mpt_trace.specs.Reading.{IsData};
 ghost use Rattle.mpt_trace.specs.ReadingSchedule.{IsChoice, IsCommand, IsInput};
 ghost use Rattle.mpt_trace.specs.ReadingItems.{IsAsk, IsBack, IsDown, IsFrame, IsItem, IsLane, IsOut, IsOutcome, IsResult, IsTask, IsTell, IsUp};
@@ -98,6 +98,24 @@ fn payload_fits(payload: &Bytes)
     ensures { IsData payload.now }
 {
     bytes_fit(payload.as_slice());
+}
+
+// The numbers of a form fit the fields of its CDB.
+pub(crate) fn form_fits_its_cdb(form: &CommandForm)
+    ensures { FitsItsCdb form.now }
+{
+    match form {
+        CommandForm::Inquiry { len } => {
+            let _len = *len;
+        }
+        CommandForm::Read { blocks, .. }
+        | CommandForm::Write { blocks, .. }
+        | CommandForm::Read16 { blocks, .. }
+        | CommandForm::Write16 { blocks, .. } => {
+            let _blocks = *blocks;
+        }
+        CommandForm::Tur | CommandForm::Capacity | CommandForm::Raw { .. } => {}
+    }
 }
 
 fn command_fits(form: &CommandForm)
