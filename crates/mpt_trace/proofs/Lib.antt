@@ -6,3 +6,4 @@ pub mod ReadEntries
 pub mod LineEnds
 pub mod ReadTraces
 pub mod CommandLength
+pub mod FitSoFar

@@ -17,9 +17,9 @@ use Rattle.mpt_trace.specs.declared.refusal.RefusedCall.{RefusedCall}
 use Rattle.mpt_trace.specs.declared.refusal.RefusedCall.TheVariants as call
 use Rattle.mpt_trace.specs.Numbers.{address_text, handle_text, line_end}
 use Rattle.mpt_trace.specs.Items.{cause_text}
-use Rattle.mpt_trace.specs.Entries.{abort_text, call_text, target_text, words_of_entry}
+use Rattle.mpt_trace.specs.Entries.{abort_text, call_text, entry_line, target_text, words_of_entry}
 use Rattle.mpt_trace.specs.Reading.{hexadecimal, is_word, number, words}
-use Rattle.mpt_trace.specs.ReadingEntries.{IsCall, IsEntry, IsTargetOutcome, IsToldApart, ReadsBack, abort_outcome_in, entry_in, entry_read, refuse_in, refused_at_in, target_outcome_in}
+use Rattle.mpt_trace.specs.ReadingEntries.{IsCall, IsEntry, IsTargetOutcome, abort_outcome_in, entry_in, entry_read, refuse_in, refused_at_in, target_outcome_in}
 use Rattle.mpt_trace.proofs.WordsRead.{first, hex_back, last, number-decimal, pair, triple, word-decimal, word-hex}
 use Rattle.mpt_trace.proofs.ReadSchedule.{choice_back, input_back}
 use Rattle.mpt_trace.proofs.ReadItems.{answer_back, cause_back, moved_back, refused_back}
@@ -98,10 +98,10 @@ without_end text =
     let e : length (text ++ line_end) - 1 ≡ length text = omega (arith, length-append text line_end) in
     rw e (take-append_seam text line_end)
 
-pub reads_back : (e : Entry) → ReadsBack e
+pub reads_back : (e : Entry) → IsEntry e → entry_read (entry_line e) ≡ Some e
 reads_back e h = ap (λ text. entry_in (words text)) (without_end (words_of_entry e)) ∙ entry_back e h
 
-pub told_apart : (one other : Entry) → IsToldApart one other
+pub told_apart : (one other : Entry) → IsEntry one → IsEntry other → entry_line one ≡ entry_line other → one ≡ other
 told_apart one other h k same =
     let e : Some one ≡ Some other = sym (reads_back one h) ∙ ap entry_read same ∙ reads_back other k in
     cc

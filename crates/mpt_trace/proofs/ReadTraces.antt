@@ -7,7 +7,7 @@ use Rattle.mpt_trace.specs.declared.entry.Entry.{Entry}
 use Rattle.mpt_trace.specs.Numbers.{line_end}
 use Rattle.mpt_trace.specs.Entries.{entry_lines, words_of_entry}
 use Rattle.mpt_trace.specs.Reading.{parts, words}
-use Rattle.mpt_trace.specs.ReadingEntries.{AreToldApart, IsEntry, entry_in}
+use Rattle.mpt_trace.specs.ReadingEntries.{IsEntry, entry_in}
 use Rattle.mpt_trace.proofs.WordsRead.{split}
 use Rattle.mpt_trace.proofs.LineEnds.{of_entry, to_free}
 use Rattle.mpt_trace.proofs.ReadEntries.{entry_back}
@@ -37,6 +37,6 @@ same_entries (e ∷ t) (f ∷ u) h k same =
     let rest = same_entries t u (All-tail IsEntry e t h) (All-tail IsEntry f u k) others in
     cc
 
-pub traces_apart : (t u : List Entry) → AreToldApart t u
+pub traces_apart : (t u : List Entry) → All IsEntry t → All IsEntry u → entry_lines t ≡ entry_lines u → t ≡ u
 traces_apart t u h k same =
     same_entries t u h k (append_cancel_right (map words_of_entry t) (map words_of_entry u) ([] ∷ []) (sym (lines_of t h) ∙ ap (parts 10) same ∙ lines_of u k))

@@ -6,6 +6,7 @@ pub mod Schedule
 pub mod Items
 pub mod Entries
 pub mod Summary
+pub mod Counts
 pub mod Parties
 pub mod Held
 pub mod Reading
