@@ -36,7 +36,7 @@ macro_rules! read_and_written {
                 assert_eq!($rt; $encode(&m, &mut out), $length);
                 assert_eq!($rt; out, frame);
             }
-            Err(fault) => assert_eq!($rt; Some(fault), None),
+            Err(fault) => panic!($rt; "refused: {fault:?}"),
         }
     };
 }
