@@ -1,7 +1,11 @@
 //! Worked frames, written out by hand from the headers' structures.
-use crate::{HostAsk, IocReply, device_page, host_frame, ioc_frame};
+use crate::{
+    HostAsk, IocReply, Kind, decode_reply, decode_request, device_page, encode, host_frame,
+    ioc_frame, list_text, message_fits,
+};
 use config_pages::encode_device_page0;
 use std::process::Abort;
+use std::test::Fail;
 
 // TEST UNIT READY of a disk: a SCSI IO without data.
 const TEST_UNIT_READY: &[u8] = b"\x0a\x00\x00\x00\x00\x00\x00\x00\x00\x00\x00\x00\x60\x00\x10\x00\
@@ -162,4 +166,30 @@ fn ioc_frames(rt: HostRuntime) {
     out = [0; 128];
     let page = device_page(0x000a, 0x5000_c500_0000_0001, 2, 5);
     shows(&rt, encode_device_page0(&page, &mut out), &out, PAGE);
+}
+
+// A message read from its bytes fits, is written as the same bytes and is listed under its name.
+#[test]
+fn reads_back(rt: HostRuntime) -> Result<(), Fail> {
+    for (kind, bytes, heading) in [
+        (Some(Kind::ScsiIo), WRITE, "scsi-io 108\n"),
+        (Some(Kind::HighPriority), ABORT, "task-mgmt 52\n"),
+        (Some(Kind::Handshake), INIT, "ioc-init 72\n"),
+        (None, CHECK_CONDITION, "scsi-io-reply 40\n"),
+        (None, ADDED, "event-reply 44\n"),
+    ] {
+        let mut out = [0; 128];
+        let m = match kind {
+            Some(kind) => decode_request(kind, bytes).map_err(|_| "refused")?,
+            None => decode_reply(bytes).map_err(|_| "refused")?,
+        };
+        assert!(rt; message_fits(&m));
+        shows(&rt, encode(&m, &mut out), &out, bytes);
+        let text = list_text(rt.alloc(), &m)?;
+        assert!(rt;
+            text.as_bytes().starts_with(heading.as_bytes()),
+            "{heading}"
+        );
+    }
+    Ok(())
 }
