@@ -1,6 +1,8 @@
 pub mod Arms
 pub mod EventBytes
+pub mod FrameStands
 pub mod FunctionByte
+pub mod LayoutStands
 pub mod MessageBytes
 pub mod RowsBytes
 pub mod RowsText
@@ -8,3 +10,4 @@ pub mod Shapes
 pub mod CommandFits
 pub mod HostFits
 pub mod IocFits
+pub mod ValueCounts
