@@ -5,3 +5,4 @@ pub mod Turns
 pub mod Blocks
 pub mod PlanReading
 pub mod PrintingPlans
+pub mod ReadBack
