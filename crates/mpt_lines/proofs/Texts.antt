@@ -14,7 +14,7 @@ use Rattle.mpt_lines.specs.Numbers.{address, byte, cdb, checked_bytes, decimal_v
 use Rattle.mpt_lines.specs.declared.fault.Cause.{Cause}
 use Rattle.mpt_lines.specs.declared.fault.Cause.TheVariants.{Range}
 use Rattle.std.proofs.lemmas.Nat.{from_be_bytes-to_be_bytes_8}
-use Rattle.mpt_lines.specs.Words.{words}
+use Rattle.mpt_lines.specs.Words.{lines, words}
 
 -- no byte of a word is a control character, a space or `#`
 abbrev pub is_word : List ℕ → Bool
@@ -181,3 +181,58 @@ within_most high n h =
 
 pub small_of : (most n : ℕ) → most < 2 ^ 64 → nat_le n most ≡ true → n < 2 ^ 64
 small_of most n room h = grind (arith, common_steps, h)
+
+-- ---- the lines of a text
+
+-- no byte of a line is a control character
+abbrev pub is_line : List ℕ → Bool
+is_line line = list_all (λ b. nat_le 32 b) line
+
+not_end : (b : ℕ) → nat_le 32 b ≡ true → (b == 10) ≡ false
+not_end b h = grind (arith, common_steps, h)
+
+-- a line and its end
+pub lines_first : (line rest : List ℕ) → is_line line ≡ true → lines (line ++ 10 ∷ rest) ≡ line ∷ lines rest
+lines_first [] rest h = refl
+lines_first (b ∷ line) rest h =
+    let parts = and_parts (nat_le 32 b) (is_line line) h in
+    rw (not_end b parts.0, lines_first line rest parts.1) refl
+
+-- a byte in front of the first of some words
+onto_words : (b : ℕ) (ws : List (List ℕ)) → list_all is_word (onto_first b ws) ≡ true → (nat_le 36 b ≡ true) × (list_all is_word ws ≡ true)
+onto_words b [] h = ((and_parts (nat_le 36 b) true (and_parts (is_word (b ∷ [])) true h).0).0, refl)
+onto_words b (w ∷ ws) h =
+    let parts = and_parts (is_word (b ∷ w)) (list_all is_word ws) h in
+    let first = and_parts (nat_le 36 b) (is_word w) parts.0 in
+    (first.0, rw (first.1, parts.1) refl)
+
+-- words and spaces are a line
+pub words_line : (line : List ℕ) → list_all is_word (words line) ≡ true → is_line line ≡ true
+words_line [] h = refl
+words_line (b ∷ line) h = spaced (b == 32) refl h (words_line line)
+  where
+  spaced : (space : Bool) → (b == 32) ≡ space → list_all is_word (cond space ([] ∷ words line) (onto_first b (words line))) ≡ true → (list_all is_word (words line) ≡ true → is_line line ≡ true) → is_line (b ∷ line) ≡ true
+  spaced true is h rest =
+      let at : nat_le 32 b ≡ true = grind (arith, common_steps, is) in
+      rw (at, rest h) refl
+  spaced false is h rest =
+      let parts = onto_words b (words line) h in
+      let at : nat_le 32 b ≡ true = grind (arith, common_steps, parts.0) in
+      rw (at, rest parts.1) refl
+
+heads : {v w : List ℕ} {vs ws : List (List ℕ)} → v ∷ vs ≡ w ∷ ws → v ≡ w
+heads e = cc
+
+-- a line with a first word begins with a byte of it
+pub words_begin : (line word : List ℕ) (others : List (List ℕ)) → words line ≡ word ∷ others → is_word word ≡ true → (length word == 0) ≡ false → ((length line == 0) || (slice_index line 0 == 35)) ≡ false
+words_begin [] word others e h some = absurd (grind (arith, common_steps, e, some))
+words_begin (b ∷ line) word others e h some = begun (b == 32) refl e
+  where
+  first_of : (ws : List (List ℕ)) → onto_first b ws ≡ word ∷ others → nat_le 36 b ≡ true
+  first_of [] is = (and_parts (nat_le 36 b) true (rw (← (heads is)) at h)).0
+  first_of (w ∷ ws) is = (and_parts (nat_le 36 b) (is_word w) (rw (← (heads is)) at h)).0
+  begun : (space : Bool) → (b == 32) ≡ space → cond space ([] ∷ words line) (onto_first b (words line)) ≡ word ∷ others → ((length (b ∷ line) == 0) || (b == 35)) ≡ false
+  begun true is e = absurd (grind (arith, common_steps, heads e, some))
+  begun false is e =
+      let at = first_of (words line) e in
+      grind (arith, common_steps, at)
