@@ -6,3 +6,4 @@ pub mod Blocks
 pub mod PlanReading
 pub mod PrintingPlans
 pub mod ReadBack
+pub mod SchedulesBack
