@@ -7,3 +7,4 @@ pub mod PlanReading
 pub mod PrintingPlans
 pub mod ReadBack
 pub mod SchedulesBack
+pub mod Accepted
