@@ -71,6 +71,23 @@ line_fits (line.Input given) = input_fits given
 line_fits (line.Choice choice count) = choice_fits choice count
 line_fits line.Drain = true
 
+-- an input to the host
+abbrev pub is_host : Input → Bool
+is_host (input.Plug address expander phy) = false
+is_host (input.Unplug address) = false
+is_host _ = true
+
+-- the numbers of a statement keep their ranges
+abbrev pub statement_fits : Statement → Bool
+statement_fits (statement.Queues queues) = nat_le 1 queues && nat_le queues 8
+statement_fits (statement.Disk disk) = is_address disk.address && nat_le 1 disk.blocks && nat_le disk.blocks 1024
+statement_fits (statement.Expander number phys) = nat_le 1 phys && nat_le phys 22
+statement_fits (statement.Plug address expander phy) = is_address address
+statement_fits (statement.Unplug address) = is_address address
+statement_fits (statement.Host given) = is_host given && input_fits given
+statement_fits (statement.Choice choice count) = choice_fits choice count
+statement_fits statement.Drain = true
+
 -- the statement that an input is
 abbrev pub input_statement : Input → Statement
 input_statement (input.Plug address expander phy) = statement.Plug address expander phy
