@@ -8,3 +8,4 @@ pub mod PrintingPlans
 pub mod ReadBack
 pub mod SchedulesBack
 pub mod Accepted
+pub mod ReadAllowed

@@ -1,5 +1,6 @@
 //! Schedules, and reading them.
-ghost use Rattle.std.specs.Prelude.{◌≡◌, ◌==◌, ◌++◌, IfErr, IfOk, IfSome, OnOk};
+ghost use Rattle.std.specs.Prelude.{◌≡◌, ◌==◌, ◌++◌, IfErr, IfOk, IfSome, IsTrue, OnOk};
+ghost use Rattle.mpt_script.specs.Allowed.{is_schedule};
 ghost use Rattle.std.specs.Option.{option_to_list};
 ghost use Rattle.mpt_script.specs.Schedules.{after_said, line_value, schedule_of, says_nothing, Refuses};
 ghost use Rattle.mpt_script.specs.Declarations as spec;
@@ -50,6 +51,7 @@ impl Schedule {
 /// A text that isn't in the grammar is refused at its first faulty line with that line's first cause.
 pub fn read_schedule(alloc: Global, text: &[u8]) -> Result<Schedule, ScriptFault>
     ensures read { IfOk result (λ schedule. schedule_of text.now ≡ Ok schedule) }
+    ensures allowed { IfOk result (λ schedule. IsTrue (is_schedule schedule)) }
     ensures refused { IfErr result (λ fault. Refuses fault (schedule_of text.now)) }
 {
     let mut left = Pieces::new(b'\n', text);

@@ -1,4 +1,5 @@
 use Rattle.std.proofs.Common.{◌≡◌, ◌∙◌, sym}
+use Rattle.mpt_script.proofs.ReadAllowed.{schedule_allowed}
 use Rattle.mpt_script.proofs.Reading.{read_all, read_refused, read_rest, read_said, read_unended}
 use Rattle.mpt_script.proofs.schedule.read_schedule.Goals as goal
 
@@ -27,3 +28,13 @@ pub returns-clause-read : goal.returns-clause-read
 returns-clause-read c =
     let inv = rw c.in_default.ensures.0 at c.loop-line.invariant in
     inv ∙ read_all c.loop-line.number c.loop-line.declared c.loop-line.lines.items
+
+pub returns-then-is_empty-2-clause-allowed : goal.returns-then-is_empty-2-clause-allowed
+returns-then-is_empty-2-clause-allowed c =
+    let inv = rw c.in-Some.ensures at c.loop-line.invariant in
+    schedule_allowed c.args.text.now c.loop-line.lines.items (inv ∙ read_rest c.loop-line.number c.loop-line.declared c.loop-line.lines.items c.in-Some.line.now c.take.new.self (sym c.is_empty.ensures ∙ c.if-is_empty.true) (sym c.is_empty-then-is_empty.ensures ∙ c.if-is_empty-2.true))
+
+pub returns-clause-allowed : goal.returns-clause-allowed
+returns-clause-allowed c =
+    let inv = rw c.in_default.ensures.0 at c.loop-line.invariant in
+    schedule_allowed c.args.text.now c.loop-line.lines.items (inv ∙ read_all c.loop-line.number c.loop-line.declared c.loop-line.lines.items)
