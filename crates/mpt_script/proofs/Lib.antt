@@ -9,3 +9,4 @@ pub mod ReadBack
 pub mod SchedulesBack
 pub mod Accepted
 pub mod ReadAllowed
+pub mod GeneratedAllowed
