@@ -1,6 +1,5 @@
 //! Printing schedules.
-ghost use Rattle.std.specs.Prelude.{◌≡◌, ◌≤◌, ◌++◌, IfOk, IsTrue, OnOk};
-ghost use Rattle.mpt_script.specs.Allowed.{is_schedule};
+ghost use Rattle.std.specs.Prelude.{◌≡◌, ◌≤◌, ◌++◌, IfOk, OnOk};
 ghost use Rattle.mpt_script.specs.Schedules.{schedule_of};
 ghost use Rattle.mpt_trace.specs.Numbers.{line_end};
 ghost use Rattle.mpt_script.specs.Printed.{count_text, disk_text, expander_text, expanders_of, line_text, schedule_text};
@@ -15,7 +14,7 @@ use std::alloc::Global;
 /// the schedule.
 pub fn print_schedule(alloc: Global, schedule: &Schedule) -> Result<Text, OutOfMemory>
     ensures text { IfOk result (λ text. text ≡ schedule_text 0 schedule.now) }
-    ensures reads_back { IsTrue (is_schedule schedule.now) → IfOk result (λ text. schedule_of text ≡ Ok schedule.now) }
+    ensures reads_back { IfOk result (λ text. schedule_of text ≡ Ok schedule.now) }
 {
     let mut text = Text::new(alloc);
     let mut expanders = 0;

@@ -14,7 +14,7 @@ use mpt_text::OutOfMemory;
 use std::alloc::Global;
 use std::marker::Model;
 
-/// A schedule. A contract sees it as the list of its lines.
+/// A schedule: lines that a text can stand for. A contract sees it as their list.
 #[derive(Drop)]
 pub struct Schedule {
     lines: Vec<Line>,
@@ -27,19 +27,26 @@ impl Model for Schedule {
     ghost Value = { List Line };
 
     ghost view = { λ s. s.lines.items };
+
+    ghost use Rattle.std.specs.Prelude.{IsTrue};
+    ghost use Rattle.mpt_script.specs.Allowed.{is_schedule};
+
+    ghost invariant = { λ s. IsTrue (is_schedule s.lines.items) };
 }
 
 impl Schedule {
     // The lines are those of a schedule.
     pub(crate) fn from_lines(lines: Vec<Line>) -> Schedule
+        requires { IsTrue (is_schedule lines.items) }
         ensures { result ≡ lines.items }
     {
         Schedule { lines }
     }
 
-    /// Its lines in order.
+    /// Its lines in order: those that a text can stand for.
     pub fn lines(&self) -> &[Line]
-        ensures { result.now ≡ self.now }
+        ensures lines { result.now ≡ self.now }
+        ensures allowed { IsTrue (is_schedule self.now) }
     {
         &self.lines
     }
@@ -51,7 +58,6 @@ impl Schedule {
 /// A text that isn't in the grammar is refused at its first faulty line with that line's first cause.
 pub fn read_schedule(alloc: Global, text: &[u8]) -> Result<Schedule, ScriptFault>
     ensures read { IfOk result (λ schedule. schedule_of text.now ≡ Ok schedule) }
-    ensures allowed { IfOk result (λ schedule. IsTrue (is_schedule schedule)) }
     ensures refused { IfErr result (λ fault. Refuses fault (schedule_of text.now)) }
 {
     let mut left = Pieces::new(b'\n', text);
@@ -62,7 +68,7 @@ pub fn read_schedule(alloc: Global, text: &[u8]) -> Result<Schedule, ScriptFault
         if left.is_empty() {
             // What follows the last line end.
             if line.is_empty() {
-                return Ok(Schedule { lines });
+                return Ok(Schedule::from_lines(lines));
             }
             return Err(ScriptFault::At {
                 line: number,
@@ -80,7 +86,7 @@ pub fn read_schedule(alloc: Global, text: &[u8]) -> Result<Schedule, ScriptFault
         }
         number = number.saturating_add(1);
     }
-    Ok(Schedule { lines })
+    Ok(Schedule::from_lines(lines))
 }
 
 // What a line says after what was declared, if it says something.

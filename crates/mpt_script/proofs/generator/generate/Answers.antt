@@ -1,4 +1,5 @@
 use Rattle.std.proofs.Common.{arith, ◌∙◌}
+use Rattle.mpt_script.proofs.GeneratedAllowed.{generated_allowed}
 use Rattle.mpt_script.proofs.Turns.{turn_last, turn_more}
 use Rattle.mpt_script.proofs.generator.generate.Goals as goal
 
@@ -11,3 +12,8 @@ loop-turn-preserved c = record {
 
 pub returns : goal.returns
 returns c = c.from_lines.ensures ∙ turn_last c.loop-turn.lines.items c.push.new.self.items _ c.loop-turn.turn c.loop-turn.generator (omega arith) c.in_ok-push.ensures.items c.loop-turn.invariant.so_far
+
+pub from_lines-requires : goal.from_lines-requires
+from_lines-requires c =
+    let whole = turn_last c.loop-turn.lines.items c.push.new.self.items _ c.loop-turn.turn c.loop-turn.generator (omega arith) c.in_ok-push.ensures.items c.loop-turn.invariant.so_far in
+    rw whole (generated_allowed c.args.number)

@@ -14,9 +14,9 @@ loop-line-preserved c = record {
   }
 
 pub returns-clause-text : goal.returns-clause-text
-returns-clause-text c = printed_all c.loop-line.text _ c.loop-line.expanders c.loop-line.line-index c.lines-lines.result.now c.loop-line-test.false c.loop-line.invariant.so_far ∙ ap (schedule_text 0) c.lines-lines.ensures
+returns-clause-text c = printed_all c.loop-line.text _ c.loop-line.expanders c.loop-line.line-index c.lines-lines.result.now c.loop-line-test.false c.loop-line.invariant.so_far ∙ ap (schedule_text 0) c.lines-lines.ensures.lines
 
 pub returns-clause-reads_back : goal.returns-clause-reads_back
-returns-clause-reads_back c = λ allowed.
-    let text = printed_all c.loop-line.text _ c.loop-line.expanders c.loop-line.line-index c.lines-lines.result.now c.loop-line-test.false c.loop-line.invariant.so_far ∙ ap (schedule_text 0) c.lines-lines.ensures in
-    ap schedule_of text ∙ schedule_back 1 0 nothing_declared c.args.schedule.now refl allowed
+returns-clause-reads_back c =
+    let text = printed_all c.loop-line.text _ c.loop-line.expanders c.loop-line.line-index c.lines-lines.result.now c.loop-line-test.false c.loop-line.invariant.so_far ∙ ap (schedule_text 0) c.lines-lines.ensures.lines in
+    ap schedule_of text ∙ schedule_back 1 0 nothing_declared c.args.schedule.now refl c.lines-lines.ensures.allowed
