@@ -1,6 +1,7 @@
 -- The command that a schedule names: its CDB by SPC-4 and SBC-3, its length and its data.
-use Rattle.std.specs.Prelude.{ℕ, ◌*◌, nat_le, if◌then◌else◌, List, [], ◌∷◌, ◌++◌, replicate}
+use Rattle.std.specs.Prelude.{◌≡◌, ℕ, ◌*◌, ◌^◌, ◌<◌, Some, nat_le, if◌then◌else◌, List, [], ◌∷◌, ◌++◌, replicate}
 use Rattle.byteorder.specs.Endian.{big_bytes}
+use Rattle.scsi_disk.specs.Command.{length_named}
 use Rattle.scsi_disk.specs.declared.command.Command.{Command}
 use Rattle.mpt_trace.specs.declared.command_form.CommandForm.{CommandForm}
 use Rattle.mpt_trace.specs.declared.command_form.CommandForm.TheVariants as form
@@ -49,3 +50,17 @@ payload_of _ = []
 -- the command that a schedule names
 abbrev pub command_named : CommandForm → Command
 command_named f = record { lun = 0; cdb = cdb_of f; len = len_of f; payload = payload_of f }
+
+-- numbers that fit the CDB's fields
+abbrev pub FitsItsCdb : CommandForm → Type 0
+FitsItsCdb (form.Inquiry len) = len < 2 ^ 16
+FitsItsCdb (form.Read lba blocks) = blocks < 2 ^ 16
+FitsItsCdb (form.Write lba blocks fill) = blocks < 2 ^ 16
+FitsItsCdb (form.Read16 lba blocks) = blocks < 2 ^ 16
+FitsItsCdb (form.Write16 lba blocks fill) = blocks < 2 ^ 16
+FitsItsCdb _ = Unit {0}
+
+-- the length that a disk reads from the CDB is the command's
+abbrev pub NamesItsLength : CommandForm → Type 0
+NamesItsLength (form.Raw cdb len) = Unit {0}
+NamesItsLength f = length_named (cdb_of f) ≡ Some (len_of f)

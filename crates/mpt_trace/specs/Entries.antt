@@ -1,5 +1,6 @@
 -- The lines of a trace.
 use Rattle.std.specs.Prelude.{ℕ, Bool, true, false, List, ◌++◌, codes, decimal}
+use Rattle.std.specs.List.{flat_map}
 use Rattle.mpt_trace.specs.declared.entry.Entry.{Entry}
 use Rattle.mpt_trace.specs.declared.entry.Entry.TheVariants as entry
 use Rattle.mpt_trace.specs.declared.outcome.AbortOutcome.{AbortOutcome}
@@ -57,6 +58,10 @@ words_of_entry entry.ResetDone = codes "reset done"
 -- an entry's line
 abbrev pub entry_line : Entry → List ℕ
 entry_line e = words_of_entry e ++ line_end
+
+-- the lines of a trace
+abbrev pub entry_lines : List Entry → List ℕ
+entry_lines t = flat_map entry_line t
 
 -- the entries that a short report shows: all but inputs, idle choices, puts and takes
 abbrev pub is_in_show : Entry → Bool

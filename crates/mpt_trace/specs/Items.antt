@@ -1,5 +1,5 @@
 -- Lanes and what they carry, in words.
-use Rattle.std.specs.Prelude.{ℕ, Bool, if◌then◌else◌, Option, Some, None, List, ◌++◌, codes, decimal}
+use Rattle.std.specs.Prelude.{ℕ, if◌then◌else◌, Option, Some, None, List, ◌++◌, codes, decimal}
 use Rattle.hex.specs.Hex.{encode_lower}
 use Rattle.mpt_text.specs.Words.{bytes_text, hex_number}
 use Rattle.scsi_disk.specs.declared.command.Command.{Command}

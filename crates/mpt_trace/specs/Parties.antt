@@ -1,5 +1,4 @@
 -- Which party an entry is of.
-use Rattle.std.specs.Prelude.{ℕ}
 use Rattle.mpt_trace.specs.declared.lane.LaneName.{LaneName}
 use Rattle.mpt_trace.specs.declared.lane.LaneName.TheVariants as lane
 use Rattle.mpt_trace.specs.declared.input.Input.{Input}

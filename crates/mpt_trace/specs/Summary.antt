@@ -5,7 +5,6 @@ use Rattle.mpt_trace.specs.declared.host_state.HostState.{HostState}
 use Rattle.mpt_trace.specs.declared.host_state.HostState.TheVariants as state
 use Rattle.mpt_trace.specs.declared.summary.DiskLine.{DiskLine}
 use Rattle.mpt_trace.specs.declared.summary.Summary.{Summary}
-use Rattle.mpt_trace.specs.declared.summary_words.Count.{Count}
 use Rattle.mpt_trace.specs.Numbers.{address_text, line_end, place_text}
 
 -- where a disk is: at a phy of an expander, or out
@@ -15,10 +14,6 @@ whereabouts None = codes " out"
 
 abbrev pub disk_line : DiskLine → List ℕ
 disk_line disk = codes "disk " ++ address_text disk.address ++ whereabouts disk.at ++ codes " sum " ++ decimal disk.sum ++ line_end
-
--- a name and its number
-abbrev pub named_number : Count → List ℕ × ℕ
-named_number count = (count.name.now, count.number)
 
 -- names, each with a number after it
 abbrev pub counts_line : List (List ℕ × ℕ) → List ℕ

@@ -8,6 +8,7 @@ use byteorder::{ByteOrder, LittleEndian};
 use mpt_text::{OutOfMemory, Text};
 
 /// Adds a SAS address: 16 hexadecimal digits.
+/// Where memory is wanting a part of it may have been added.
 pub fn push_address(text: &mut Text, address: Address) -> Result<(), OutOfMemory>
     ensures { OnOk result (text.new ≡ text.old ++ address_text address) }
 {
@@ -15,6 +16,7 @@ pub fn push_address(text: &mut Text, address: Address) -> Result<(), OutOfMemory
 }
 
 /// Adds a handle: four hexadecimal digits.
+/// Where memory is wanting a part of it may have been added.
 pub fn push_handle(text: &mut Text, handle: Handle) -> Result<(), OutOfMemory>
     ensures { OnOk result (text.new ≡ text.old ++ handle_text handle) }
 {
@@ -22,6 +24,7 @@ pub fn push_handle(text: &mut Text, handle: Handle) -> Result<(), OutOfMemory>
 }
 
 /// Adds a byte: two hexadecimal digits.
+/// Where memory is wanting a part of it may have been added.
 pub fn push_byte(text: &mut Text, byte: u8) -> Result<(), OutOfMemory>
     ensures { OnOk result (text.new ≡ text.old ++ byte_text byte) }
 {
@@ -30,6 +33,7 @@ pub fn push_byte(text: &mut Text, byte: u8) -> Result<(), OutOfMemory>
 
 /// Adds a descriptor, which is the little-endian number of its 8 bytes: two hexadecimal digits for
 /// each byte in order.
+/// Where memory is wanting a part of it may have been added.
 pub fn push_descriptor(text: &mut Text, descriptor: u64) -> Result<(), OutOfMemory>
     ensures { OnOk result (text.new ≡ text.old ++ descriptor_text descriptor) }
 {
@@ -39,6 +43,7 @@ pub fn push_descriptor(text: &mut Text, descriptor: u64) -> Result<(), OutOfMemo
 }
 
 /// Adds the number of an expander and of its phy, in decimal.
+/// Where memory is wanting a part of it may have been added.
 pub fn push_place(text: &mut Text, expander: u8, phy: u8) -> Result<(), OutOfMemory>
     ensures { OnOk result (text.new ≡ text.old ++ place_text expander phy) }
 {

@@ -12,6 +12,7 @@ use crate::numbers::{push_address, push_addressed, push_byte, push_number, push_
 use mpt_text::{OutOfMemory, Text};
 
 /// Adds an input's line in a schedule, without the end of the line.
+/// Where memory is wanting a part of it may have been added.
 pub fn push_input(text: &mut Text, input: &Input) -> Result<(), OutOfMemory>
     ensures { OnOk result (text.new ≡ text.old ++ input_line input.now) }
 {
@@ -55,6 +56,7 @@ fn push_plug(text: &mut Text, address: Address, expander: u8, phy: u8) -> Result
 }
 
 /// Adds a command's words in a schedule.
+/// Where memory is wanting a part of it may have been added.
 pub fn push_command(text: &mut Text, form: &CommandForm) -> Result<(), OutOfMemory>
     ensures { OnOk result (text.new ≡ text.old ++ command_text form.now) }
 {
@@ -106,6 +108,7 @@ fn push_blocks(text: &mut Text, name: &[u8], lba: u64, blocks: u16) -> Result<()
 }
 
 /// Adds a choice's line in a schedule, without a count and without the end of the line.
+/// Where memory is wanting a part of it may have been added.
 pub fn push_choice(text: &mut Text, choice: Choice) -> Result<(), OutOfMemory>
     ensures { OnOk result (text.new ≡ text.old ++ choice_line choice) }
 {

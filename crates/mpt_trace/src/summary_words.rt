@@ -1,7 +1,8 @@
 //! The lines at the end of a report.
 ghost use Rattle.std.specs.Prelude.{◌≡◌, ◌++◌, IfOk, OnOk, map};
 ghost use Rattle.std.specs.List.{flat_map};
-ghost use Rattle.mpt_trace.specs.Summary.{answers_line, counts_line, disk_line, named_number, phases_line, state_line, state_text, summary_lines, whereabouts};
+ghost use Rattle.mpt_trace.specs.Counts.{named_number};
+ghost use Rattle.mpt_trace.specs.Summary.{answers_line, counts_line, disk_line, phases_line, state_line, state_text, summary_lines, whereabouts};
 
 use crate::host_state::HostState;
 use crate::numbers::{push_addressed, push_number, push_place};

@@ -2,7 +2,8 @@
 use crate::{
     AbortOutcome, Ask, Back, Choice, CommandForm, DiskLine, DiskLines, Down, Entry, HostState,
     Input, Item, LaneName, Out, OutOfMemory, Outcome, Party, Refusal, RefusedCall, Summary,
-    TargetOutcome, Tell, Trace, Up, command_of, entry_text, in_show, party, summary_text,
+    TargetOutcome, Tell, Trace, Up, cdb_names_the_length, command_of, entry_text, in_show,
+    line_reads_back, lines_tell_apart, lines_tell_traces_apart, party, summary_text,
 };
 use scsi_disk::{Bytes, Cdb, Command, ScsiResult};
 use std::alloc::Global;
@@ -799,5 +800,9 @@ fn traces(rt: HostRuntime) -> Result<(), Fail> {
     assert!(rt; matches!(trace.get(1), Some(Entry::ResetDone)));
     assert!(rt; trace.get(2).is_none());
     assert_eq!(rt; trace.as_slice().len(), 2);
+    lines_tell_traces_apart(trace.as_slice(), trace.as_slice());
+    lines_tell_apart(&Entry::HostUp, &Entry::UnbindAll);
+    line_reads_back(&Entry::UnbindAll);
+    cdb_names_the_length(&CommandForm::Capacity);
     Ok(())
 }

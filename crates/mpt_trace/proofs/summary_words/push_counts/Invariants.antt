@@ -1,6 +1,6 @@
 use Rattle.std.proofs.Common.{◌≡◌, ◌++◌, ℕ, List, decimal, take, map}
 use Rattle.std.specs.List.{flat_map}
-use Rattle.mpt_trace.specs.Summary.{named_number}
+use Rattle.mpt_trace.specs.Counts.{named_number}
 use Rattle.mpt_trace.proofs.summary_words.push_counts.Given as goal
 
 -- the text holds the names and numbers so far

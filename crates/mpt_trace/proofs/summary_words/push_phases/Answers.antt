@@ -1,5 +1,6 @@
 use Rattle.std.proofs.Common.{◌≡◌, ℕ, List, [], ◌∷◌, ◌++◌, OnOk, codes, subst}
-use Rattle.mpt_trace.specs.Summary.{counts_line, named_number}
+use Rattle.mpt_trace.specs.Counts.{named_number}
+use Rattle.mpt_trace.specs.Summary.{counts_line}
 use Rattle.mpt_trace.proofs.summary_words.push_phases.Goals as goal
 
 pub returns : goal.returns
