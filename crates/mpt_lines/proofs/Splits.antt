@@ -1,6 +1,6 @@
 -- Taking the first piece off.
-use Rattle.std.proofs.Common.{◌≡◌, ℕ, ◌+◌, ◌==◌, Bool, true, false, cond, List, [], ◌∷◌, take, drop, length, Option, Some, None, refl, sym, ◌∙◌, ap, arith, nat_lt, ◌<◌, ◌-◌, Bor, is_some, not, count_by}
-use Rattle.std.specs.List.{position_from, position, position_or_len, slice_split}
+use Rattle.std.proofs.Common.{◌≡◌, ℕ, ◌+◌, ◌==◌, Bool, true, false, cond, List, [], ◌∷◌, take, drop, length, Option, Some, None, refl, sym, ◌∙◌, ap, arith, ◌<◌, ◌-◌, Bor, is_some, not, count_by}
+use Rattle.std.specs.List.{position_from, position_or_len, slice_split}
 use Rattle.std.proofs.lemmas.List.Splits.{slice_split_first, length-slice_split}
 use Rattle.std.proofs.lemmas.Iterator.Adapters.{position_from-zero}
 use Rattle.std.proofs.lemmas.Grind.{common_steps}
@@ -11,9 +11,9 @@ from_none : (p : ℕ → Bool) (k : ℕ) (xs : List ℕ) → position_from p k x
 from_none p k [] e = refl
 from_none p k (x ∷ xs) e = passed (p x) refl e (from_none p (k + 1) xs)
   where
-  passed : (b : Bool) → p x ≡ b → cond b (Some k) (position_from p (k + 1) xs) ≡ None → (position_from p (k + 1) xs ≡ None → slice_split p xs ≡ xs ∷ []) → slice_split p (x ∷ xs) ≡ (x ∷ xs) ∷ []
-  passed true is e others = cc
-  passed false is e others = rw is (rw (others e) refl)
+    passed : (b : Bool) → p x ≡ b → cond b (Some k) (position_from p (k + 1) xs) ≡ None → (position_from p (k + 1) xs ≡ None → slice_split p xs ≡ xs ∷ []) → slice_split p (x ∷ xs) ≡ (x ∷ xs) ∷ []
+    passed true is e others = cc
+    passed false is e others = rw is (rw (others e) refl)
 
 -- without a separator the text is the one piece
 pub pieces_without : (c : ℕ) (text : List ℕ) → position_from (λ byte. byte == c) 0 text ≡ None → pieces c text ≡ text ∷ []

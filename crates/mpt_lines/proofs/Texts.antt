@@ -1,16 +1,16 @@
 -- The words of printed lines, read back.
-use Rattle.std.proofs.Common.{rules, append_assoc, lit<, if◌then◌else◌, zero, suc, ◌||◌, not, ◌≡◌, ℕ, ◌+◌, ◌-◌, ◌*◌, ◌/◌, ◌%◌, ◌^◌, ◌<◌, ◌≤◌, ◌==◌, ◌&&◌, nat_le, nat_lt, min, Bool, true, false, cond, List, [], ◌∷◌, ◌++◌, length, get_or, fold, Result, Ok, Err, Option, Some, None, is_some, slice_index, refl, sym, ◌∙◌, ap, subst, arith, decimal}
-use Rattle.std.specs.List.{list_all, slice_split, onto_first}
+use Rattle.std.proofs.Common.{rules, append_assoc, lit<, if◌then◌else◌, zero, suc, ◌||◌, not, ◌≡◌, ℕ, ◌+◌, ◌-◌, ◌*◌, ◌/◌, ◌%◌, ◌^◌, ◌<◌, ◌≤◌, ◌==◌, ◌&&◌, nat_le, min, Bool, true, false, cond, List, [], ◌∷◌, ◌++◌, length, get_or, fold, Result, Ok, Err, Some, is_some, slice_index, refl, sym, ◌∙◌, ap, subst, arith, decimal}
+use Rattle.std.specs.List.{list_all, onto_first}
 use Rattle.std.proofs.lemmas.Bool.{and_parts}
 use Rattle.std.proofs.lemmas.Grind.{common_steps}
 use Rattle.std.proofs.lemmas.Fmt.{decimal_digit, decimal_nonempty, digits_decimal, digits_value-decimal, first_decimal}
 use Rattle.std.proofs.lemmas.Str.Parse.{IsNumeralModel, numerals_by_fold}
-use Rattle.hex.specs.Hex.{IsBytes, decode_sized, encode_lower, encode_with, hex_digit_value, is_hex_digit, lower_digits}
+use Rattle.hex.specs.Hex.{IsBytes, encode_lower, encode_with, hex_digit_value, is_hex_digit, lower_digits}
 use Rattle.hex.proofs.HexLemmas.{IsDigits-lower_digits, decode_sized-encode_lower, length-encode_with}
 use Rattle.byteorder.specs.Endian.{big_bytes}
 use Rattle.std.specs.Int.{byte_at, bytes_high_first, w64, from_be_bytes}
 use Rattle.mpt_trace.specs.Numbers.{address_text, byte_text}
-use Rattle.mpt_lines.specs.Numbers.{address, byte, cdb, checked_bytes, decimal_value, digits, formed, is_decimal_digit, is_numeral, number, too_great, within, ◌>>=◌}
+use Rattle.mpt_lines.specs.Numbers.{address, byte, cdb, checked_bytes, decimal_value, digits, formed, is_decimal_digit, is_numeral, number, within, ◌>>=◌}
 use Rattle.mpt_lines.specs.declared.fault.Cause.{Cause}
 use Rattle.mpt_lines.specs.declared.fault.Cause.TheVariants.{Range}
 use Rattle.std.proofs.lemmas.Nat.{from_be_bytes-to_be_bytes_8}
@@ -73,8 +73,8 @@ pub number_decimal : (n : ℕ) → n < 2 ^ 64 → number (decimal n) ≡ Ok n
 number_decimal zero small = ap number (decimal_digit zero (omega arith))
 number_decimal (suc n) small =
     value_small (decimal (suc n)) (suc n)
-      (numeral (decimal (suc n)) (decimal_nonempty (suc n) small) (digits_decimal own (suc n) small) (lead_of (suc n) (omega arith) small))
-      (digits_value-decimal own (suc n) small) small
+    (numeral (decimal (suc n)) (decimal_nonempty (suc n) small) (digits_decimal own (suc n) small) (lead_of (suc n) (omega arith) small))
+    (digits_value-decimal own (suc n) small) small
 
 -- ---- hexadecimal digits
 
@@ -211,14 +211,14 @@ pub words_line : (line : List ℕ) → list_all is_word (words line) ≡ true �
 words_line [] h = refl
 words_line (b ∷ line) h = spaced (b == 32) refl h (words_line line)
   where
-  spaced : (space : Bool) → (b == 32) ≡ space → list_all is_word (cond space ([] ∷ words line) (onto_first b (words line))) ≡ true → (list_all is_word (words line) ≡ true → is_line line ≡ true) → is_line (b ∷ line) ≡ true
-  spaced true is h rest =
-      let at : nat_le 32 b ≡ true = grind (arith, common_steps, is) in
-      rw (at, rest h) refl
-  spaced false is h rest =
-      let parts = onto_words b (words line) h in
-      let at : nat_le 32 b ≡ true = grind (arith, common_steps, parts.0) in
-      rw (at, rest parts.1) refl
+    spaced : (space : Bool) → (b == 32) ≡ space → list_all is_word (cond space ([] ∷ words line) (onto_first b (words line))) ≡ true → (list_all is_word (words line) ≡ true → is_line line ≡ true) → is_line (b ∷ line) ≡ true
+    spaced true is h rest =
+        let at : nat_le 32 b ≡ true = grind (arith, common_steps, is) in
+        rw (at, rest h) refl
+    spaced false is h rest =
+        let parts = onto_words b (words line) h in
+        let at : nat_le 32 b ≡ true = grind (arith, common_steps, parts.0) in
+        rw (at, rest parts.1) refl
 
 heads : {v w : List ℕ} {vs ws : List (List ℕ)} → v ∷ vs ≡ w ∷ ws → v ≡ w
 heads e = cc
@@ -228,11 +228,12 @@ pub words_begin : (line word : List ℕ) (others : List (List ℕ)) → words li
 words_begin [] word others e h some = absurd (grind (arith, common_steps, e, some))
 words_begin (b ∷ line) word others e h some = begun (b == 32) refl e
   where
-  first_of : (ws : List (List ℕ)) → onto_first b ws ≡ word ∷ others → nat_le 36 b ≡ true
-  first_of [] is = (and_parts (nat_le 36 b) true (rw (← (heads is)) at h)).0
-  first_of (w ∷ ws) is = (and_parts (nat_le 36 b) (is_word w) (rw (← (heads is)) at h)).0
-  begun : (space : Bool) → (b == 32) ≡ space → cond space ([] ∷ words line) (onto_first b (words line)) ≡ word ∷ others → ((length (b ∷ line) == 0) || (b == 35)) ≡ false
-  begun true is e = absurd (grind (arith, common_steps, heads e, some))
-  begun false is e =
-      let at = first_of (words line) e in
-      grind (arith, common_steps, at)
+    first_of : (ws : List (List ℕ)) → onto_first b ws ≡ word ∷ others → nat_le 36 b ≡ true
+    first_of [] is = (and_parts (nat_le 36 b) true (rw (← (heads is)) at h)).0
+    first_of (w ∷ ws) is = (and_parts (nat_le 36 b) (is_word w) (rw (← (heads is)) at h)).0
+
+    begun : (space : Bool) → (b == 32) ≡ space → cond space ([] ∷ words line) (onto_first b (words line)) ≡ word ∷ others → ((length (b ∷ line) == 0) || (b == 35)) ≡ false
+    begun true is e = absurd (grind (arith, common_steps, heads e, some))
+    begun false is e =
+        let at = first_of (words line) e in
+        grind (arith, common_steps, at)

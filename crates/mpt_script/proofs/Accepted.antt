@@ -1,10 +1,10 @@
 -- What reads as a command or a statement keeps its ranges.
-use Rattle.std.proofs.Common.{◌≡◌, ℕ, zero, suc, ◌+◌, ◌*◌, ◌/◌, ◌%◌, ◌^◌, ◌<◌, ◌≤◌, ◌==◌, ◌&&◌, nat_le, Bool, true, false, cond, List, [], ◌∷◌, length, slice_index, Result, Ok, Err, refl, sym, ◌∙◌, ap, subst, arith, codes, bytes_eq}
+use Rattle.std.proofs.Common.{◌≡◌, ℕ, suc, ◌/◌, ◌%◌, ◌<◌, ◌≤◌, ◌==◌, ◌&&◌, nat_le, Bool, true, false, cond, List, [], ◌∷◌, length, Result, Ok, Err, refl, sym, ◌∙◌, subst, arith, codes, bytes_eq}
 use Rattle.std.specs.List.{list_all}
 use Rattle.std.proofs.lemmas.Bool.{and_parts}
 use Rattle.std.proofs.lemmas.Grind.{common_steps}
 use Rattle.hex.specs.declared.error.FromHexError.{FromHexError}
-use Rattle.hex.specs.Hex.{IsBytes, decode_of, decode_sized}
+use Rattle.hex.specs.Hex.{IsBytes, decode_sized}
 use Rattle.hex.proofs.HexLemmas.{decode_of-ok, decode_sized-ok, decode_sized-twice}
 use Rattle.mpt_lines.specs.declared.fault.Cause.{Cause}
 use Rattle.mpt_lines.specs.declared.fault.Cause.TheVariants.{Form, Range}
@@ -146,17 +146,18 @@ write16_fits ws f e =
 cdb_ok : (word block : List ℕ) (done : Unit) → checked_bytes word ≡ Ok done → cdb word ≡ Ok block → (nat_le 1 (length block) && nat_le (length block) 32 && list_all is_byte block) ≡ true
 cdb_ok word block done c e = in_room (nat_le (length word / 2) 32) refl e
   where
-  shape : is_bytes word ≡ true
-  shape = (chosen (is_bytes word) tt done Form c).0
-  in_room : (room : Bool) → nat_le (length word / 2) 32 ≡ room → cond room (digits (length word / 2) word) (Err Range) ≡ Ok block → (nat_le 1 (length block) && nat_le (length block) 32 && list_all is_byte block) ≡ true
-  in_room false is e = cc
-  in_room true is e =
-      let ok = digits_ok (length word / 2) word block e in
-      let long = (and_parts (nat_le 1 (length word)) (length word % 2 == 0) (and_parts (nat_le 1 (length word) && (length word % 2 == 0)) _ shape).0) in
-      let same = ok.0 in
-      let some : nat_le 1 (length block) ≡ true = grind (arith, common_steps, same, long.0, long.1) in
-      let short : nat_le (length block) 32 ≡ true = rw same is in
-      rw (some, short, all_bytes block ok.1) refl
+    shape : is_bytes word ≡ true
+    shape = (chosen (is_bytes word) tt done Form c).0
+
+    in_room : (room : Bool) → nat_le (length word / 2) 32 ≡ room → cond room (digits (length word / 2) word) (Err Range) ≡ Ok block → (nat_le 1 (length block) && nat_le (length block) 32 && list_all is_byte block) ≡ true
+    in_room false is e = cc
+    in_room true is e =
+        let ok = digits_ok (length word / 2) word block e in
+        let long = (and_parts (nat_le 1 (length word)) (length word % 2 == 0) (and_parts (nat_le 1 (length word) && (length word % 2 == 0)) _ shape).0) in
+        let same = ok.0 in
+        let some : nat_le 1 (length block) ≡ true = grind (arith, common_steps, same, long.0, long.1) in
+        let short : nat_le (length block) 32 ≡ true = rw same is in
+        rw (some, short, all_bytes block ok.1) refl
 
 raw_fits : (ws : List (List ℕ)) (f : CommandForm) → raw ws ≡ Ok f → form_fits f ≡ true
 raw_fits ws f e =
@@ -174,14 +175,14 @@ pub command_fits : (ws : List (List ℕ)) → FormKept (command ws)
 command_fits [] = λ f e. refused Form f _ e
 command_fits (word ∷ others) =
     either FormKept (bytes_eq word (codes "tur")) (tur others) _ (tur_fits others)
-      (either FormKept (bytes_eq word (codes "inquiry")) (inquiry others) _ (inquiry_fits others)
-      (either FormKept (bytes_eq word (codes "capacity")) (capacity others) _ (capacity_fits others)
-      (either FormKept (bytes_eq word (codes "read")) (read others) _ (read_fits others)
-      (either FormKept (bytes_eq word (codes "write")) (write others) _ (write_fits others)
-      (either FormKept (bytes_eq word (codes "read16")) (read16 others) _ (read16_fits others)
-      (either FormKept (bytes_eq word (codes "write16")) (write16 others) _ (write16_fits others)
-      (either FormKept (bytes_eq word (codes "raw")) (raw others) _ (raw_fits others)
-      (λ f e. refused Form f _ e))))))))
+    (either FormKept (bytes_eq word (codes "inquiry")) (inquiry others) _ (inquiry_fits others)
+    (either FormKept (bytes_eq word (codes "capacity")) (capacity others) _ (capacity_fits others)
+    (either FormKept (bytes_eq word (codes "read")) (read others) _ (read_fits others)
+    (either FormKept (bytes_eq word (codes "write")) (write others) _ (write_fits others)
+    (either FormKept (bytes_eq word (codes "read16")) (read16 others) _ (read16_fits others)
+    (either FormKept (bytes_eq word (codes "write16")) (write16 others) _ (write16_fits others)
+    (either FormKept (bytes_eq word (codes "raw")) (raw others) _ (raw_fits others)
+    (λ f e. refused Form f _ e))))))))
 
 -- ---- statements
 
@@ -300,43 +301,43 @@ Kept r = (s : Statement) → r ≡ Ok s → statement_fits s ≡ true
 plain_choice_fits : (word : List ℕ) (others : List (List ℕ)) → Kept (plain_choice word others)
 plain_choice_fits word others =
     either Kept (bytes_eq word (codes "host-put")) (counted choice.HostPut others) _ (counted_fits choice.HostPut (λ n. refl) others)
-      (either Kept (bytes_eq word (codes "host-take")) (counted choice.HostTake others) _ (counted_fits choice.HostTake (λ n. refl) others)
-      (either Kept (bytes_eq word (codes "ioc-take")) (counted choice.IocTake others) _ (counted_fits choice.IocTake (λ n. refl) others)
-      (either Kept (bytes_eq word (codes "ioc-high")) (counted choice.IocHigh others) _ (counted_fits choice.IocHigh (λ n. refl) others)
-      (either Kept (bytes_eq word (codes "ioc-normal")) (counted choice.IocNormal others) _ (counted_fits choice.IocNormal (λ n. refl) others)
-      (either Kept (bytes_eq word (codes "ioc-out")) (counted choice.IocOut others) _ (counted_fits choice.IocOut (λ n. refl) others)
-      (either Kept (bytes_eq word (codes "ioc-back")) (counted choice.IocBack others) _ (counted_fits choice.IocBack (λ n. refl) others)
-      (either Kept (bytes_eq word (codes "ioc-put")) (counted choice.IocPut others) _ (counted_fits choice.IocPut (λ n. refl) others)
-      (either Kept (bytes_eq word (codes "fabric-take")) (counted choice.FabricTake others) _ (counted_fits choice.FabricTake (λ n. refl) others)
-      (either Kept (bytes_eq word (codes "fabric-say")) (counted choice.FabricSay others) _ (counted_fits choice.FabricSay (λ n. refl) others)
-      (either Kept (bytes_eq word (codes "fabric-put")) (counted choice.FabricPut others) _ (counted_fits choice.FabricPut (λ n. refl) others)
-      (λ s e. refused Form s _ e)))))))))))
+    (either Kept (bytes_eq word (codes "host-take")) (counted choice.HostTake others) _ (counted_fits choice.HostTake (λ n. refl) others)
+    (either Kept (bytes_eq word (codes "ioc-take")) (counted choice.IocTake others) _ (counted_fits choice.IocTake (λ n. refl) others)
+    (either Kept (bytes_eq word (codes "ioc-high")) (counted choice.IocHigh others) _ (counted_fits choice.IocHigh (λ n. refl) others)
+    (either Kept (bytes_eq word (codes "ioc-normal")) (counted choice.IocNormal others) _ (counted_fits choice.IocNormal (λ n. refl) others)
+    (either Kept (bytes_eq word (codes "ioc-out")) (counted choice.IocOut others) _ (counted_fits choice.IocOut (λ n. refl) others)
+    (either Kept (bytes_eq word (codes "ioc-back")) (counted choice.IocBack others) _ (counted_fits choice.IocBack (λ n. refl) others)
+    (either Kept (bytes_eq word (codes "ioc-put")) (counted choice.IocPut others) _ (counted_fits choice.IocPut (λ n. refl) others)
+    (either Kept (bytes_eq word (codes "fabric-take")) (counted choice.FabricTake others) _ (counted_fits choice.FabricTake (λ n. refl) others)
+    (either Kept (bytes_eq word (codes "fabric-say")) (counted choice.FabricSay others) _ (counted_fits choice.FabricSay (λ n. refl) others)
+    (either Kept (bytes_eq word (codes "fabric-put")) (counted choice.FabricPut others) _ (counted_fits choice.FabricPut (λ n. refl) others)
+    (λ s e. refused Form s _ e)))))))))))
 
 choice_line_fits : (word : List ℕ) (others : List (List ℕ)) → Kept (choice_line word others)
 choice_line_fits word others =
     either Kept (bytes_eq word (codes "fabric-run")) (fabric_run others) _ (fabric_run_fits others)
-      (either Kept (bytes_eq word (codes "ioc-put-on")) (ioc_put_on others) _ (ioc_put_on_fits others)
-      (either Kept (bytes_eq word (codes "host-take-on")) (host_take_on others) _ (host_take_on_fits others)
-      (plain_choice_fits word others)))
+    (either Kept (bytes_eq word (codes "ioc-put-on")) (ioc_put_on others) _ (ioc_put_on_fits others)
+    (either Kept (bytes_eq word (codes "host-take-on")) (host_take_on others) _ (host_take_on_fits others)
+    (plain_choice_fits word others)))
 
 step_line_fits : (word : List ℕ) (others : List (List ℕ)) → Kept (step_line word others)
 step_line_fits word others =
     either Kept (bytes_eq word (codes "start")) (start others) _ (start_fits others)
-      (either Kept (bytes_eq word (codes "reset")) (reset others) _ (reset_fits others)
-      (either Kept (bytes_eq word (codes "unit")) (unit others) _ (unit_fits others)
-      (either Kept (bytes_eq word (codes "treset")) (treset others) _ (treset_fits others)
-      (either Kept (bytes_eq word (codes "submit")) (submit others) _ (submit_fits others)
-      (either Kept (bytes_eq word (codes "abort")) (abort others) _ (abort_fits others)
-      (choice_line_fits word others))))))
+    (either Kept (bytes_eq word (codes "reset")) (reset others) _ (reset_fits others)
+    (either Kept (bytes_eq word (codes "unit")) (unit others) _ (unit_fits others)
+    (either Kept (bytes_eq word (codes "treset")) (treset others) _ (treset_fits others)
+    (either Kept (bytes_eq word (codes "submit")) (submit others) _ (submit_fits others)
+    (either Kept (bytes_eq word (codes "abort")) (abort others) _ (abort_fits others)
+    (choice_line_fits word others))))))
 
 -- what a line of a schedule says keeps its ranges
 pub schedule_line_fits : (ws : List (List ℕ)) → Kept (schedule_line ws)
 schedule_line_fits [] = λ s e. refused Form s _ e
 schedule_line_fits (word ∷ others) =
     either Kept (bytes_eq word (codes "queues")) (queues others) _ (queues_fits others)
-      (either Kept (bytes_eq word (codes "disk")) (disk others) _ (disk_fits others)
-      (either Kept (bytes_eq word (codes "expander")) (expander others) _ (expander_fits others)
-      (either Kept (bytes_eq word (codes "plug")) (plug others) _ (plug_fits others)
-      (either Kept (bytes_eq word (codes "unplug")) (unplug others) _ (unplug_fits others)
-      (either Kept (bytes_eq word (codes "drain")) (drain others) _ (drain_fits others)
-      (step_line_fits word others))))))
+    (either Kept (bytes_eq word (codes "disk")) (disk others) _ (disk_fits others)
+    (either Kept (bytes_eq word (codes "expander")) (expander others) _ (expander_fits others)
+    (either Kept (bytes_eq word (codes "plug")) (plug others) _ (plug_fits others)
+    (either Kept (bytes_eq word (codes "unplug")) (unplug others) _ (unplug_fits others)
+    (either Kept (bytes_eq word (codes "drain")) (drain others) _ (drain_fits others)
+    (step_line_fits word others))))))

@@ -1,5 +1,5 @@
 -- Generated lines are allowed.
-use Rattle.std.proofs.Common.{◌≡◌, ℕ, zero, suc, ◌+◌, ◌-◌, ◌*◌, ◌/◌, ◌%◌, ◌<◌, ◌≤◌, ◌==◌, ◌&&◌, ◌||◌, not, nat_le, nat_lt, Bool, true, false, cond, List, [], ◌∷◌, ◌++◌, length, refl, sym, ◌∙◌, ap, subst, arith, lit≤, lit<, if◌then◌else◌}
+use Rattle.std.proofs.Common.{◌≡◌, ℕ, zero, suc, ◌+◌, ◌-◌, ◌*◌, ◌%◌, ◌<◌, ◌≤◌, ◌==◌, ◌&&◌, ◌||◌, nat_le, nat_lt, Bool, true, false, cond, List, [], ◌∷◌, ◌++◌, refl, ◌∙◌, ap, arith, lit≤, lit<, if◌then◌else◌}
 use Rattle.std.specs.List.{list_any}
 use Rattle.std.proofs.lemmas.Bool.{and_parts}
 use Rattle.std.proofs.lemmas.Grind.{common_steps}
@@ -12,7 +12,7 @@ use Rattle.mpt_script.specs.declared.line.Line.TheVariants as line
 use Rattle.mpt_script.specs.Allowed.{are_allowed, is_schedule, is_unrefused, line_fits, statement_of}
 use Rattle.mpt_script.specs.Declarations.{Declared, after, data_of, has_disk, nothing_declared, resets_of}
 use Rattle.mpt_script.specs.declared.stage.Stage.TheVariants.{Steps}
-use Rattle.mpt_script.specs.Generator.{block, disk_address, generated, head, is_plugged, kind, place, plug_line, resets_after, started, turn_line, turn_lines, turned, turns}
+use Rattle.mpt_script.specs.Generator.{block, disk_address, generated, head, is_plugged, kind, place, plug_line, started, turn_line, turned, turns}
 
 -- the eight disks' addresses
 abbrev eight : List ℕ
@@ -108,12 +108,12 @@ turn_stands more t d g r ht =
     let hp : place g < 8 = omega arith in
     let hl : block g < 64 = omega arith in
     pick (MayStand d) (nat_le (kind g) 5) (line.Input (input.Submit t (disk_address (place g)) (form.Write (block g) 1 (t % 256)))) _ (λ e. write_stands more t (place g) (block g) (t % 256) d g r ht hp hl (omega arith))
-      (λ e. pick (MayStand d) (nat_le (kind g) 10) (line.Input (input.Submit t (disk_address (place g)) (form.Read (block g) 1))) _ (λ f. read_stands more t (place g) (block g) d g r ht hp hl)
-      (λ f. pick (MayStand d) (kind g == 11) (line.Input (input.Abort (t - 1))) _ (λ h. abort_stands more (t - 1) d g r (omega arith))
-      (λ h. pick (MayStand d) (kind g == 12) (line.Input (input.TargetReset (disk_address (place g)))) _ (λ k. treset_stands more (place g) d g r hp)
-      (λ k. pick (MayStand d) (kind g == 13) (if is_plugged g then line.Input (input.Unplug (disk_address (place g))) else plug_line (place g)) _
-        (λ m. pick (MayStand d) (is_plugged g) (line.Input (input.Unplug (disk_address (place g)))) (plug_line (place g)) (λ n. unplug_stands more (place g) d g r hp) (λ n. plug_stands more (place g) d g r hp))
-      (λ m. pick (MayStand d) (kind g == 15 && nat_lt g.resets 8) (line.Input input.Reset) line.Drain (λ n. reset_stands more d g r) (λ n. refl))))))
+    (λ e. pick (MayStand d) (nat_le (kind g) 10) (line.Input (input.Submit t (disk_address (place g)) (form.Read (block g) 1))) _ (λ f. read_stands more t (place g) (block g) d g r ht hp hl)
+    (λ f. pick (MayStand d) (kind g == 11) (line.Input (input.Abort (t - 1))) _ (λ h. abort_stands more (t - 1) d g r (omega arith))
+    (λ h. pick (MayStand d) (kind g == 12) (line.Input (input.TargetReset (disk_address (place g)))) _ (λ k. treset_stands more (place g) d g r hp)
+    (λ k. pick (MayStand d) (kind g == 13) (if is_plugged g then line.Input (input.Unplug (disk_address (place g))) else plug_line (place g)) _
+    (λ m. pick (MayStand d) (is_plugged g) (line.Input (input.Unplug (disk_address (place g)))) (plug_line (place g)) (λ n. unplug_stands more (place g) d g r hp) (λ n. plug_stands more (place g) d g r hp))
+    (λ m. pick (MayStand d) (kind g == 15 && nat_lt g.resets 8) (line.Input input.Reset) line.Drain (λ n. reset_stands more d g r) (λ n. refl))))))
 
 -- what is declared after a turn
 abbrev Follows : ℕ → Declared → Generator → Line → Type 0
@@ -169,12 +169,12 @@ turn_follows : (more t : ℕ) (d : Declared) (g : Generator) → Ready (suc more
 turn_follows more t d g r =
     let below = nat_lt g.resets 8 in
     pick (Follows more d g) (nat_le (kind g) 5) (line.Input (input.Submit t (disk_address (place g)) (form.Write (block g) 1 (t % 256)))) _ (λ e. after_input more d g (input.Submit t (disk_address (place g)) (form.Write (block g) 1 (t % 256))) r refl (lit≤ tt) (low_kind 5 (kind g) below (lit< tt) e))
-      (λ e. pick (Follows more d g) (nat_le (kind g) 10) (line.Input (input.Submit t (disk_address (place g)) (form.Read (block g) 1))) _ (λ f. after_input more d g (input.Submit t (disk_address (place g)) (form.Read (block g) 1)) r refl (lit≤ tt) (low_kind 10 (kind g) below (lit< tt) f))
-      (λ f. pick (Follows more d g) (kind g == 11) (line.Input (input.Abort (t - 1))) _ (λ h. after_input more d g (input.Abort (t - 1)) r refl (lit≤ tt) (this_kind 11 (kind g) below (lit< tt) h))
-      (λ h. pick (Follows more d g) (kind g == 12) (line.Input (input.TargetReset (disk_address (place g)))) _ (λ k. after_input more d g (input.TargetReset (disk_address (place g))) r refl (lit≤ tt) (this_kind 12 (kind g) below (lit< tt) k))
-      (λ k. pick (Follows more d g) (kind g == 13) (if is_plugged g then line.Input (input.Unplug (disk_address (place g))) else plug_line (place g)) _
-        (λ m. pick (Follows more d g) (is_plugged g) (line.Input (input.Unplug (disk_address (place g)))) (plug_line (place g)) (λ n. after_input more d g (input.Unplug (disk_address (place g))) r refl (lit≤ tt) (this_kind 13 (kind g) below (lit< tt) m)) (λ n. after_input more d g (input.Plug (disk_address (place g)) 0 (place g)) r refl (lit≤ tt) (this_kind 13 (kind g) below (lit< tt) m)))
-      (λ m. pick (Follows more d g) (kind g == 15 && nat_lt g.resets 8) (line.Input input.Reset) line.Drain (λ n. after_reset more d g r n) (λ n. after_drain more d g r n))))))
+    (λ e. pick (Follows more d g) (nat_le (kind g) 10) (line.Input (input.Submit t (disk_address (place g)) (form.Read (block g) 1))) _ (λ f. after_input more d g (input.Submit t (disk_address (place g)) (form.Read (block g) 1)) r refl (lit≤ tt) (low_kind 10 (kind g) below (lit< tt) f))
+    (λ f. pick (Follows more d g) (kind g == 11) (line.Input (input.Abort (t - 1))) _ (λ h. after_input more d g (input.Abort (t - 1)) r refl (lit≤ tt) (this_kind 11 (kind g) below (lit< tt) h))
+    (λ h. pick (Follows more d g) (kind g == 12) (line.Input (input.TargetReset (disk_address (place g)))) _ (λ k. after_input more d g (input.TargetReset (disk_address (place g))) r refl (lit≤ tt) (this_kind 12 (kind g) below (lit< tt) k))
+    (λ k. pick (Follows more d g) (kind g == 13) (if is_plugged g then line.Input (input.Unplug (disk_address (place g))) else plug_line (place g)) _
+    (λ m. pick (Follows more d g) (is_plugged g) (line.Input (input.Unplug (disk_address (place g)))) (plug_line (place g)) (λ n. after_input more d g (input.Unplug (disk_address (place g))) r refl (lit≤ tt) (this_kind 13 (kind g) below (lit< tt) m)) (λ n. after_input more d g (input.Plug (disk_address (place g)) 0 (place g)) r refl (lit≤ tt) (this_kind 13 (kind g) below (lit< tt) m)))
+    (λ m. pick (Follows more d g) (kind g == 15 && nat_lt g.resets 8) (line.Input input.Reset) line.Drain (λ n. after_reset more d g r n) (λ n. after_drain more d g r n))))))
 
 both : (a b : Bool) → a ≡ true → b ≡ true → (a && b) ≡ true
 both a b h k = rw (h, k) refl
@@ -194,8 +194,8 @@ turns_allowed (suc more) t d g r h =
     let follows = turn_follows more t d g r in
     let idle : Ready more (after (after d l) line.Drain) (turned g) = record { disks = follows.disks; phys = follows.phys; resets = follows.resets; few = follows.few; total = follows.total } in
     both (line_fits l && is_unrefused d (statement_of d l)) (are_allowed (after d l) ((if t % 64 == 0 then line.Drain ∷ [] else []) ++ turns more (t + 1) (turned g)))
-      (turn_stands more t d g r (omega arith))
-      (drained (t % 64 == 0) (after d l) (turns more (t + 1) (turned g)) (turns_allowed more (t + 1) (after d l) (turned g) follows (omega arith)) (turns_allowed more (t + 1) (after (after d l) line.Drain) (turned g) idle (omega arith)))
+    (turn_stands more t d g r (omega arith))
+    (drained (t % 64 == 0) (after d l) (turns more (t + 1) (turned g)) (turns_allowed more (t + 1) (after d l) (turned g) follows (omega arith)) (turns_allowed more (t + 1) (after (after d l) line.Drain) (turned g) idle (omega arith)))
 
 -- the head leaves the eight disks plugged
 abbrev headed : Declared

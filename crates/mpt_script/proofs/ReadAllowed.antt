@@ -1,5 +1,5 @@
 -- What a text stands for is allowed.
-use Rattle.std.proofs.Common.{◌≡◌, ℕ, zero, suc, ◌+◌, ◌<◌, ◌≤◌, ◌==◌, ◌&&◌, ◌||◌, not, nat_le, nat_lt, Bool, true, false, cond, List, [], ◌∷◌, ◌++◌, length, slice_index, Option, Some, None, Result, Ok, Err, refl, sym, ◌∙◌, ap, subst, arith, lit≤}
+use Rattle.std.proofs.Common.{◌≡◌, ℕ, zero, suc, ◌≤◌, ◌==◌, ◌&&◌, ◌||◌, not, nat_le, nat_lt, Bool, true, false, cond, List, [], ◌∷◌, length, slice_index, Option, Some, None, Result, Ok, Err, refl, ◌∙◌, ap, subst, arith, lit≤}
 use Rattle.std.specs.List.{list_all}
 use Rattle.std.proofs.lemmas.Bool.{and_parts}
 use Rattle.std.proofs.lemmas.Grind.{common_steps}
@@ -14,8 +14,7 @@ use Rattle.mpt_lines.specs.Words.{words}
 use Rattle.mpt_trace.specs.declared.input.Input.{Input}
 use Rattle.mpt_trace.specs.declared.input.Input.TheVariants as input
 use Rattle.mpt_script.specs.declared.line.Line.{Line}
-use Rattle.mpt_script.specs.declared.line.Line.TheVariants as line
-use Rattle.mpt_script.specs.Allowed.{are_allowed, input_fits, input_statement, is_address, is_byte, is_host, is_schedule, is_unrefused, line_fits, statement_fits, statement_of}
+use Rattle.mpt_script.specs.Allowed.{are_allowed, input_fits, input_statement, is_byte, is_host, is_schedule, is_unrefused, line_fits, statement_fits, statement_of}
 use Rattle.mpt_script.specs.Declarations.{Declared, after, has_disk, has_phy, is_misplaced, is_repeated, is_steps, is_too_many, is_unknown, judged, line_of, nothing_declared}
 use Rattle.mpt_script.specs.Schedules.{Fault, before, continued, line_value, next_number, says_nothing, schedule_from, schedule_of}
 use Rattle.mpt_script.proofs.Accepted.{bind_ok, ok_value, refused, schedule_line_fits}
@@ -51,8 +50,8 @@ narrow_at (p ∷ phys) zero h =
     let here = (and_parts (nat_le p 22) (list_all (λ q. nat_le q 22) phys) h).0 in
     narrow_here p here
   where
-  narrow_here : (q : ℕ) → nat_le q 22 ≡ true → q ≤ 22
-  narrow_here q is = grind (arith, common_steps, is)
+    narrow_here : (q : ℕ) → nat_le q 22 ≡ true → q ≤ 22
+    narrow_here q is = grind (arith, common_steps, is)
 narrow_at (p ∷ phys) (suc k) h = narrow_at phys k (and_parts (nat_le p 22) (list_all (λ q. nat_le q 22) phys) h).1
 
 or_parts : (a b : Bool) → (a || b) ≡ false → (a ≡ false) × (b ≡ false)
@@ -117,7 +116,7 @@ allowed_line d said l s h a =
     let fits = fitting_line d said s h a.known in
     let same = same_statement d said h a.placed in
     subst (λ (m : Line). (line_fits m && is_unrefused d (statement_of d m)) ≡ true) a.line
-      (rw (fits, same, a.placed, a.new, a.within, a.known) refl)
+    (rw (fits, same, a.placed, a.new, a.within, a.known) refl)
 
 -- after an answered line there are few expanders still
 sound_after : (d : Declared) (said : Statement) → Sound d → statement_fits said ≡ true → is_too_many d said ≡ false → Sound (after d (line_of said))
@@ -143,8 +142,8 @@ said_by false (Ok said) d l h =
     let j = bind_ok (judged d said) _ (Some l) h in
     (said, refl, j.1 ∙ ap Ok (some_value j.0 l (ok_value (Some j.0) (Some l) j.2)))
   where
-  some_value : (x y : Line) → Some x ≡ Some y → x ≡ y
-  some_value x y e = cc
+    some_value : (x y : Line) → Some x ≡ Some y → x ≡ y
+    some_value x y e = cc
 
 before_ok : (l : Line) (r : Result (List Line) Fault) (ls : List Line) → before l r ≡ Ok ls → (others : List Line) × (r ≡ Ok others) × (l ∷ others ≡ ls)
 before_ok l (Ok others) ls h = (others, refl, cc)
@@ -168,18 +167,18 @@ read_allowed number d [] ls s h = no_lines d ls h
 read_allowed number d (rest ∷ []) ls s h = last_lines (length rest == 0) d _ ls h
 read_allowed number d (text ∷ next ∷ others) ls s h = went (line_value d text) refl h (λ d' ls' s' h'. read_allowed (next_number number) d' (next ∷ others) ls' s' h')
   where
-  went : (r : Result (Option Line) Cause) → line_value d text ≡ r → continued number d r (λ now. schedule_from (next_number number) now (next ∷ others)) ≡ Ok ls
-    → ((d' : Declared) (ls' : List Line) → Sound d' → schedule_from (next_number number) d' (next ∷ others) ≡ Ok ls' → are_allowed d' ls' ≡ true) → are_allowed d ls ≡ true
-  went (Err cause) is e rest_allowed = cc
-  went (Ok None) is e rest_allowed = rest_allowed d ls s e
-  went (Ok (Some l)) is e rest_allowed =
-      let said = said_by (says_nothing text) (schedule_line (words text)) d l is in
-      let fits = schedule_line_fits (words text) said.0 said.1 in
-      let a = answered d said.0 l said.2 in
-      let rest = before_ok l _ ls e in
-      let sound = subst (λ (m : Line). Sound (after d m)) a.line (sound_after d said.0 s fits a.within) in
-      let rest_is = rest_allowed (after d l) rest.0 sound rest.1 in
-      subst (λ (xs : List Line). are_allowed d xs ≡ true) rest.2 (rw (allowed_line d said.0 l s fits a, rest_is) refl)
+    went : (r : Result (Option Line) Cause) → line_value d text ≡ r → continued number d r (λ now. schedule_from (next_number number) now (next ∷ others)) ≡ Ok ls
+        → ((d' : Declared) (ls' : List Line) → Sound d' → schedule_from (next_number number) d' (next ∷ others) ≡ Ok ls' → are_allowed d' ls' ≡ true) → are_allowed d ls ≡ true
+    went (Err cause) is e rest_allowed = cc
+    went (Ok None) is e rest_allowed = rest_allowed d ls s e
+    went (Ok (Some l)) is e rest_allowed =
+        let said = said_by (says_nothing text) (schedule_line (words text)) d l is in
+        let fits = schedule_line_fits (words text) said.0 said.1 in
+        let a = answered d said.0 l said.2 in
+        let rest = before_ok l _ ls e in
+        let sound = subst (λ (m : Line). Sound (after d m)) a.line (sound_after d said.0 s fits a.within) in
+        let rest_is = rest_allowed (after d l) rest.0 sound rest.1 in
+        subst (λ (xs : List Line). are_allowed d xs ≡ true) rest.2 (rw (allowed_line d said.0 l s fits a, rest_is) refl)
 
 pub schedule_allowed : (text : List ℕ) (ls : List Line) → schedule_of text ≡ Ok ls → is_schedule ls ≡ true
 schedule_allowed text ls h = read_allowed 1 nothing_declared _ ls (record { few = lit≤ tt; narrow = refl }) h

@@ -1,11 +1,10 @@
 -- Each printed line reads as the statement that it is.
-use Rattle.std.proofs.Common.{append-nil, ◌≡◌, ℕ, zero, suc, ◌+◌, ◌^◌, ◌<◌, ◌≤◌, ◌==◌, ◌&&◌, nat_le, Bool, true, false, cond, List, [], ◌∷◌, ◌++◌, length, slice_index, Result, Ok, Err, refl, sym, ◌∙◌, ap, subst, arith, decimal, codes, lit<}
+use Rattle.std.proofs.Common.{append-nil, ◌≡◌, ℕ, zero, suc, ◌^◌, ◌<◌, ◌≤◌, ◌==◌, ◌&&◌, nat_le, Bool, true, false, List, [], ◌∷◌, ◌++◌, length, Ok, refl, ◌∙◌, ap, arith, decimal, codes, lit<}
 use Rattle.std.specs.List.{list_all}
 use Rattle.std.proofs.lemmas.Bool.{and_parts}
 use Rattle.std.proofs.lemmas.Grind.{common_steps}
 use Rattle.hex.specs.Hex.{IsBytes, encode_lower}
 use Rattle.mpt_lines.proofs.Texts.{address_address_text, byte_byte_text, bytes_encode, cdb_encode, is_word, number_decimal, small_of, within_most, within_range, word_address_text, word_byte_text, word_decimal, word_encode, words_first, words_last, words_more, words_three, words_two, words_two_more}
-use Rattle.mpt_lines.specs.declared.fault.Cause.{Cause}
 use Rattle.mpt_lines.specs.declared.statement.Statement.{Statement}
 use Rattle.mpt_lines.specs.declared.statement.Statement.TheVariants as statement
 use Rattle.mpt_lines.specs.Commands.{command, inquiry, raw, read, read16, write, write16}
@@ -122,8 +121,8 @@ all_bytes (x ∷ xs) h zero =
     let parts = and_parts (is_byte x) (list_all is_byte xs) h in
     byte_small x parts.0
   where
-  byte_small : (b : ℕ) → is_byte b ≡ true → b < 256
-  byte_small b is = grind (arith, common_steps, is)
+    byte_small : (b : ℕ) → is_byte b ≡ true → b < 256
+    byte_small b is = grind (arith, common_steps, is)
 all_bytes (x ∷ xs) h (suc i) = all_bytes xs (and_parts (is_byte x) (list_all is_byte xs) h).1 i
 
 reads_raw : (a b block : List ℕ) (len : ℕ) → checked_bytes a ≡ Ok tt → number b ≡ Ok len → cdb a ≡ Ok block → within 0 4294967295 len ≡ Ok len → raw (a ∷ b ∷ []) ≡ Ok (form.Raw block len)
@@ -184,7 +183,7 @@ treset_back at h = record {
   plain = rw (word_address_text at) refl;
   some = refl;
   reads = reads_treset (address_text at) at (address_address_text at (address_small at h));
-  }
+}
 
 reads_unplug : (a : List ℕ) (at : ℕ) → address a ≡ Ok at → unplug (a ∷ []) ≡ Ok (statement.Unplug at)
 reads_unplug a at e = rw e refl
@@ -197,7 +196,7 @@ unplug_back at h = record {
   plain = rw (word_address_text at) refl;
   some = refl;
   reads = reads_unplug (address_text at) at (address_address_text at (address_small at h));
-  }
+}
 
 reads_abort : (a : List ℕ) (n : ℕ) → number a ≡ Ok n → within 0 4294967295 n ≡ Ok n → abort (a ∷ []) ≡ Ok (statement.Host (input.Abort n))
 reads_abort a n e w = rw (e, w) refl
@@ -321,30 +320,30 @@ reads_counted c a count e w = rw (e, w) refl
 
 -- a choice's word, with its count
 counted_back : (c : Choice) (name : List ℕ) (count : ℕ) → is_count count ≡ true → is_word name ≡ true → (length name == 0) ≡ false → words name ≡ name ∷ [] → ((rest : List ℕ) → words (name ++ 32 ∷ rest) ≡ name ∷ words rest)
-  → ((others : List (List ℕ)) → schedule_line (name ∷ others) ≡ counted c others) → ReadsAs (name ++ count_text count) (statement.Choice c count)
+    → ((others : List (List ℕ)) → schedule_line (name ∷ others) ≡ counted c others) → ReadsAs (name ++ count_text count) (statement.Choice c count)
 counted_back c name count h plain some alone more reads = by_count (count == 1) refl
   where
-  by_count : (once : Bool) → (count == 1) ≡ once → ReadsAs (name ++ count_text count) (statement.Choice c count)
-  by_count true is =
-      let one : count ≡ 1 = grind (arith, common_steps, is) in
-      rw one (record {
-        word = name;
-        others = [];
-        words_are = ap words (append-nil name) ∙ alone;
-        plain = rw plain refl;
-        some = some;
-        reads = reads [];
-      })
-  by_count false is =
-      let small = count_small count h in
-      rw is (record {
-        word = name;
-        others = decimal count ∷ [];
-        words_are = more (decimal count) ∙ ap (λ ws. name ∷ ws) (words_last (decimal count) (word_decimal count small));
-        plain = rw (plain, word_decimal count small) refl;
-        some = some;
-        reads = reads (decimal count ∷ []) ∙ reads_counted c (decimal count) count (number_decimal count small) (within_range 1 64 count h);
-      })
+    by_count : (once : Bool) → (count == 1) ≡ once → ReadsAs (name ++ count_text count) (statement.Choice c count)
+    by_count true is =
+        let one : count ≡ 1 = grind (arith, common_steps, is) in
+        rw one (record {
+          word = name;
+          others = [];
+          words_are = ap words (append-nil name) ∙ alone;
+          plain = rw plain refl;
+          some = some;
+          reads = reads [];
+        })
+    by_count false is =
+        let small = count_small count h in
+        rw is (record {
+          word = name;
+          others = decimal count ∷ [];
+          words_are = more (decimal count) ∙ ap (λ ws. name ∷ ws) (words_last (decimal count) (word_decimal count small));
+          plain = rw (plain, word_decimal count small) refl;
+          some = some;
+          reads = reads (decimal count ∷ []) ∙ reads_counted c (decimal count) count (number_decimal count small) (within_range 1 64 count h);
+        })
 
 reads_run : (a : List ℕ) (tag : ℕ) → number a ≡ Ok tag → within 0 65535 tag ≡ Ok tag → fabric_run (a ∷ []) ≡ Ok (statement.Choice (choice.FabricRun tag) 1)
 reads_run a tag e w = rw (e, w) refl
@@ -372,31 +371,33 @@ reads_ioc_put_on a b queue count e f v w = rw (e, f, v, w) refl
 ioc_put_on_back : (queue count : ℕ) → (is_queue queue && is_count count) ≡ true → ReadsAs (choice_line (choice.IocPutOn queue) ++ count_text count) (statement.Choice (choice.IocPutOn queue) count)
 ioc_put_on_back queue count h = by_count (count == 1) refl
   where
-  parts : (is_queue queue ≡ true) × (is_count count ≡ true)
-  parts = and_parts (is_queue queue) (is_count count) h
-  small : queue < 2 ^ 64
-  small = small_of 7 queue (lit< tt) (and_parts (nat_le 1 queue) (nat_le queue 7) parts.0).1
-  by_count : (once : Bool) → (count == 1) ≡ once → ReadsAs (choice_line (choice.IocPutOn queue) ++ count_text count) (statement.Choice (choice.IocPutOn queue) count)
-  by_count true is =
-      let one : count ≡ 1 = grind (arith, common_steps, is) in
-      rw one (record {
-        word = codes "ioc-put-on";
-        others = decimal queue ∷ [];
-        words_are = ap (λ ws. codes "ioc-put-on" ∷ ws) (ap words (append-nil (decimal queue)) ∙ words_last (decimal queue) (word_decimal queue small));
-        plain = rw (word_decimal queue small) refl;
-        some = refl;
-        reads = reads_ioc_put_on_once (decimal queue) queue (number_decimal queue small) (within_range 1 7 queue parts.0);
-      })
-  by_count false is =
-      let few = count_small count parts.1 in
-      rw is (record {
-        word = codes "ioc-put-on";
-        others = decimal queue ∷ decimal count ∷ [];
-        words_are = ap (λ ws. codes "ioc-put-on" ∷ ws) (words_first (decimal queue) (decimal count) (word_decimal queue small) ∙ ap (λ ws. decimal queue ∷ ws) (words_last (decimal count) (word_decimal count few)));
-        plain = rw (word_decimal queue small, word_decimal count few) refl;
-        some = refl;
-        reads = reads_ioc_put_on (decimal queue) (decimal count) queue count (number_decimal queue small) (number_decimal count few) (within_range 1 7 queue parts.0) (within_range 1 64 count parts.1);
-      })
+    parts : (is_queue queue ≡ true) × (is_count count ≡ true)
+    parts = and_parts (is_queue queue) (is_count count) h
+
+    small : queue < 2 ^ 64
+    small = small_of 7 queue (lit< tt) (and_parts (nat_le 1 queue) (nat_le queue 7) parts.0).1
+
+    by_count : (once : Bool) → (count == 1) ≡ once → ReadsAs (choice_line (choice.IocPutOn queue) ++ count_text count) (statement.Choice (choice.IocPutOn queue) count)
+    by_count true is =
+        let one : count ≡ 1 = grind (arith, common_steps, is) in
+        rw one (record {
+          word = codes "ioc-put-on";
+          others = decimal queue ∷ [];
+          words_are = ap (λ ws. codes "ioc-put-on" ∷ ws) (ap words (append-nil (decimal queue)) ∙ words_last (decimal queue) (word_decimal queue small));
+          plain = rw (word_decimal queue small) refl;
+          some = refl;
+          reads = reads_ioc_put_on_once (decimal queue) queue (number_decimal queue small) (within_range 1 7 queue parts.0);
+        })
+    by_count false is =
+        let few = count_small count parts.1 in
+        rw is (record {
+          word = codes "ioc-put-on";
+          others = decimal queue ∷ decimal count ∷ [];
+          words_are = ap (λ ws. codes "ioc-put-on" ∷ ws) (words_first (decimal queue) (decimal count) (word_decimal queue small) ∙ ap (λ ws. decimal queue ∷ ws) (words_last (decimal count) (word_decimal count few)));
+          plain = rw (word_decimal queue small, word_decimal count few) refl;
+          some = refl;
+          reads = reads_ioc_put_on (decimal queue) (decimal count) queue count (number_decimal queue small) (number_decimal count few) (within_range 1 7 queue parts.0) (within_range 1 64 count parts.1);
+        })
 
 reads_host_take_on_once : (a : List ℕ) (queue : ℕ) → number a ≡ Ok queue → within 1 7 queue ≡ Ok queue → host_take_on (a ∷ []) ≡ Ok (statement.Choice (choice.HostTakeOn queue) 1)
 reads_host_take_on_once a queue e w = rw (e, w) refl
@@ -407,31 +408,33 @@ reads_host_take_on a b queue count e f v w = rw (e, f, v, w) refl
 host_take_on_back : (queue count : ℕ) → (is_queue queue && is_count count) ≡ true → ReadsAs (choice_line (choice.HostTakeOn queue) ++ count_text count) (statement.Choice (choice.HostTakeOn queue) count)
 host_take_on_back queue count h = by_count (count == 1) refl
   where
-  parts : (is_queue queue ≡ true) × (is_count count ≡ true)
-  parts = and_parts (is_queue queue) (is_count count) h
-  small : queue < 2 ^ 64
-  small = small_of 7 queue (lit< tt) (and_parts (nat_le 1 queue) (nat_le queue 7) parts.0).1
-  by_count : (once : Bool) → (count == 1) ≡ once → ReadsAs (choice_line (choice.HostTakeOn queue) ++ count_text count) (statement.Choice (choice.HostTakeOn queue) count)
-  by_count true is =
-      let one : count ≡ 1 = grind (arith, common_steps, is) in
-      rw one (record {
-        word = codes "host-take-on";
-        others = decimal queue ∷ [];
-        words_are = ap (λ ws. codes "host-take-on" ∷ ws) (ap words (append-nil (decimal queue)) ∙ words_last (decimal queue) (word_decimal queue small));
-        plain = rw (word_decimal queue small) refl;
-        some = refl;
-        reads = reads_host_take_on_once (decimal queue) queue (number_decimal queue small) (within_range 1 7 queue parts.0);
-      })
-  by_count false is =
-      let few = count_small count parts.1 in
-      rw is (record {
-        word = codes "host-take-on";
-        others = decimal queue ∷ decimal count ∷ [];
-        words_are = ap (λ ws. codes "host-take-on" ∷ ws) (words_first (decimal queue) (decimal count) (word_decimal queue small) ∙ ap (λ ws. decimal queue ∷ ws) (words_last (decimal count) (word_decimal count few)));
-        plain = rw (word_decimal queue small, word_decimal count few) refl;
-        some = refl;
-        reads = reads_host_take_on (decimal queue) (decimal count) queue count (number_decimal queue small) (number_decimal count few) (within_range 1 7 queue parts.0) (within_range 1 64 count parts.1);
-      })
+    parts : (is_queue queue ≡ true) × (is_count count ≡ true)
+    parts = and_parts (is_queue queue) (is_count count) h
+
+    small : queue < 2 ^ 64
+    small = small_of 7 queue (lit< tt) (and_parts (nat_le 1 queue) (nat_le queue 7) parts.0).1
+
+    by_count : (once : Bool) → (count == 1) ≡ once → ReadsAs (choice_line (choice.HostTakeOn queue) ++ count_text count) (statement.Choice (choice.HostTakeOn queue) count)
+    by_count true is =
+        let one : count ≡ 1 = grind (arith, common_steps, is) in
+        rw one (record {
+          word = codes "host-take-on";
+          others = decimal queue ∷ [];
+          words_are = ap (λ ws. codes "host-take-on" ∷ ws) (ap words (append-nil (decimal queue)) ∙ words_last (decimal queue) (word_decimal queue small));
+          plain = rw (word_decimal queue small) refl;
+          some = refl;
+          reads = reads_host_take_on_once (decimal queue) queue (number_decimal queue small) (within_range 1 7 queue parts.0);
+        })
+    by_count false is =
+        let few = count_small count parts.1 in
+        rw is (record {
+          word = codes "host-take-on";
+          others = decimal queue ∷ decimal count ∷ [];
+          words_are = ap (λ ws. codes "host-take-on" ∷ ws) (words_first (decimal queue) (decimal count) (word_decimal queue small) ∙ ap (λ ws. decimal queue ∷ ws) (words_last (decimal count) (word_decimal count few)));
+          plain = rw (word_decimal queue small, word_decimal count few) refl;
+          some = refl;
+          reads = reads_host_take_on (decimal queue) (decimal count) queue count (number_decimal queue small) (number_decimal count few) (within_range 1 7 queue parts.0) (within_range 1 64 count parts.1);
+        })
 
 -- each printed choice reads as its statement
 pub choice_back : (c : Choice) (count : ℕ) → choice_fits c count ≡ true → ReadsAs (choice_line c ++ count_text count) (statement.Choice c count)

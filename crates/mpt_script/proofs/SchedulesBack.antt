@@ -1,5 +1,5 @@
 -- The printed text of a schedule reads as the schedule.
-use Rattle.std.proofs.Common.{◌≡◌, ℕ, ◌+◌, ◌^◌, ◌<◌, ◌≤◌, ◌==◌, ◌&&◌, ◌||◌, not, nat_le, Bool, true, false, List, [], ◌∷◌, ◌++◌, length, slice_index, Option, Some, None, Result, Ok, Err, refl, sym, ◌∙◌, ap, subst, arith, codes, count_by, append_assoc, add-zero}
+use Rattle.std.proofs.Common.{◌≡◌, ℕ, ◌+◌, ◌^◌, ◌<◌, ◌==◌, ◌&&◌, not, Bool, true, false, List, [], ◌∷◌, ◌++◌, length, Option, Some, Result, Ok, refl, sym, ◌∙◌, ap, subst, arith, codes, count_by, append_assoc, add-zero}
 use Rattle.std.specs.List.{list_all}
 use Rattle.std.proofs.lemmas.Bool.{and_parts}
 use Rattle.std.proofs.lemmas.Grind.{common_steps}
@@ -18,7 +18,7 @@ use Rattle.mpt_script.specs.declared.line.Line.TheVariants as line
 use Rattle.mpt_script.specs.Allowed.{are_allowed, input_statement, is_unrefused, line_fits, statement_of}
 use Rattle.mpt_script.specs.Declarations.{Declared, after, is_misplaced, is_repeated, is_too_many, is_unknown, judged, line_of}
 use Rattle.mpt_script.specs.Printed.{expanders_of, line_text, schedule_text}
-use Rattle.mpt_script.specs.Schedules.{Fault, before, line_value, next_number, says_nothing, schedule_from}
+use Rattle.mpt_script.specs.Schedules.{line_value, next_number, says_nothing, schedule_from}
 use Rattle.mpt_script.proofs.ReadBack.{ReadsAs, choice_back, disk_back, expander_back, input_back, queues_back}
 use Rattle.mpt_script.proofs.Reading.{preceded, preceded-nil, read_said}
 
@@ -96,7 +96,7 @@ some_lines text =
 
 -- one line and the rest of the text
 one_line : (number : ℕ) (d : Declared) (l : Line) (text rest : List ℕ) (ls : List Line) → is_line text ≡ true → line_value d text ≡ Ok (Some l)
-  → schedule_from (next_number number) (after d l) (lines rest) ≡ Ok ls → schedule_from number d (lines ((text ++ line_end) ++ rest)) ≡ Ok (l ∷ ls)
+    → schedule_from (next_number number) (after d l) (lines rest) ≡ Ok ls → schedule_from number d (lines ((text ++ line_end) ++ rest)) ≡ Ok (l ∷ ls)
 one_line number d l text rest ls plain value others =
     let split : lines ((text ++ line_end) ++ rest) ≡ text ∷ lines rest = rw (append_assoc text line_end rest) (lines_first text rest plain) in
     let said = read_said number d [] text (lines rest) (Some l) (some_lines rest) value in
@@ -113,4 +113,4 @@ schedule_back number e d (l ∷ ls) same h =
     let answered : judged d (statement_of d l) ≡ Ok l = unrefused_judged d (statement_of d l) inner.1 ∙ ap Ok (line_of_statement d l) in
     let next : e + expanders_of l ≡ length (after d l).phys = ap (λ (n : ℕ). n + expanders_of l) same ∙ sym (phys_after d l) in
     one_line number d l (line_text e l) (schedule_text (e + expanders_of l) ls) ls (line_plain (line_text e l) (statement_of d l) reads) (value_of d (line_text e l) (statement_of d l) l reads answered)
-      (schedule_back (next_number number) (e + expanders_of l) (after d l) ls next outer.1)
+    (schedule_back (next_number number) (e + expanders_of l) (after d l) ls next outer.1)

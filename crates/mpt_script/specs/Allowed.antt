@@ -1,5 +1,5 @@
 -- The schedules that a text can stand for.
-use Rattle.std.specs.Prelude.{ℕ, ◌+◌, ◌==◌, ◌&&◌, ◌||◌, not, nat_le, nat_lt, Bool, true, false, List, [], ◌∷◌, length}
+use Rattle.std.specs.Prelude.{ℕ, ◌==◌, ◌&&◌, not, nat_le, Bool, true, false, List, [], ◌∷◌, length}
 use Rattle.std.specs.List.{list_all}
 use Rattle.mpt_lines.specs.declared.statement.Statement.{Statement}
 use Rattle.mpt_lines.specs.declared.statement.Statement.TheVariants as statement

@@ -6,10 +6,8 @@ ghost use Rattle.mpt_script.specs.Schedules.{after_said, line_value, schedule_of
 ghost use Rattle.mpt_script.specs.Declarations as spec;
 
 use crate::declared::Declared;
-use mpt_lines::{Cause, ScriptFault};
 use crate::line::Line;
-use mpt_lines::Pieces;
-use mpt_lines::schedule_line;
+use mpt_lines::{Cause, Pieces, ScriptFault, schedule_line};
 use mpt_text::OutOfMemory;
 use std::alloc::Global;
 use std::marker::Model;
@@ -109,7 +107,11 @@ pub(crate) fn says_nothing(line: &[u8]) -> bool
 }
 
 // Adds what a line said, if it said something.
-fn add(declared: &mut Declared, lines: &mut Vec<Line>, said: Option<Line>) -> Result<(), OutOfMemory>
+fn add(
+    declared: &mut Declared,
+    lines: &mut Vec<Line>,
+    said: Option<Line>,
+) -> Result<(), OutOfMemory>
     requires { IfSome said (spec.HasRoom declared.old) }
     ensures declared { OnOk result (declared.new ≡ after_said declared.old said) }
     ensures lines { OnOk result (lines.new.items ≡ lines.old.items ++ option_to_list said) }

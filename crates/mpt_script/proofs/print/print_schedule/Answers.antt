@@ -9,9 +9,9 @@ use Rattle.mpt_script.proofs.print.print_schedule.Goals as goal
 pub loop-line-preserved : goal.loop-line-preserved
 loop-line-preserved c = record {
   so_far = rw (c.in_ok-push.ensures.ok, c.in_ok-push_line.ensures, c.expanders_of-expanders.ensures.value)
-    (printed_line c.loop-line.text _ c.loop-line.expanders c.loop-line.line-index c.lines-lines.result.now c.line-item.result c.loop-line-test.true c.line-item.is c.loop-line.invariant.so_far);
+      (printed_line c.loop-line.text _ c.loop-line.expanders c.loop-line.line-index c.lines-lines.result.now c.line-item.result c.loop-line-test.true c.line-item.is c.loop-line.invariant.so_far);
   few = omega arith;
-  }
+}
 
 pub returns-clause-text : goal.returns-clause-text
 returns-clause-text c = printed_all c.loop-line.text _ c.loop-line.expanders c.loop-line.line-index c.lines-lines.result.now c.loop-line-test.false c.loop-line.invariant.so_far ∙ ap (schedule_text 0) c.lines-lines.ensures.lines

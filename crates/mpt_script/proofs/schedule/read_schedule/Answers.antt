@@ -1,4 +1,4 @@
-use Rattle.std.proofs.Common.{◌≡◌, ◌∙◌, sym}
+use Rattle.std.proofs.Common.{◌∙◌, sym}
 use Rattle.mpt_script.proofs.ReadAllowed.{schedule_allowed}
 use Rattle.mpt_script.proofs.Reading.{read_all, read_refused, read_rest, read_said, read_unended}
 use Rattle.mpt_script.proofs.schedule.read_schedule.Goals as goal
@@ -22,7 +22,7 @@ pub loop-line-preserved : goal.loop-line-preserved
 loop-line-preserved c =
     let inv = rw c.in-Some.ensures at c.loop-line.invariant in
     rw (c.in_ok-add-in-Ok.ensures.declared, c.in_ok-add-in-Ok.ensures.lines, c.saturating_add-number.ensures)
-      (inv ∙ read_said c.loop-line.number c.loop-line.declared c.loop-line.lines.items c.in-Some.line.now c.take.new.self c.in-Ok.said (sym c.is_empty.ensures ∙ c.if-is_empty.false) (sym c.line_value.ensures.value ∙ c.in-Ok.is))
+    (inv ∙ read_said c.loop-line.number c.loop-line.declared c.loop-line.lines.items c.in-Some.line.now c.take.new.self c.in-Ok.said (sym c.is_empty.ensures ∙ c.if-is_empty.false) (sym c.line_value.ensures.value ∙ c.in-Ok.is))
 
 pub returns-clause-read : goal.returns-clause-read
 returns-clause-read c =
