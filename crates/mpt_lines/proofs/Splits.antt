@@ -1,6 +1,6 @@
 -- Taking the first piece off.
-use Rattle.std.proofs.Common.{◌≡◌, ℕ, ◌+◌, ◌==◌, Bool, true, false, cond, List, [], ◌∷◌, take, drop, length, Option, Some, None, refl, sym, ◌∙◌, ap, arith, nat_lt, ◌<◌, ◌-◌, Bor, is_some, not, count_by}
-use Rattle.std.specs.List.{position_from, position, position_or_len, slice_split}
+use Rattle.std.proofs.Common.{◌≡◌, ℕ, ◌+◌, ◌==◌, Bool, true, false, cond, List, [], ◌∷◌, take, drop, length, Option, Some, None, refl, sym, ◌∙◌, ap, arith, ◌<◌, ◌-◌, Bor, is_some, not, count_by}
+use Rattle.std.specs.List.{position_from, position_or_len, slice_split}
 use Rattle.std.proofs.lemmas.List.Splits.{slice_split_first, length-slice_split}
 use Rattle.std.proofs.lemmas.Iterator.Adapters.{position_from-zero}
 use Rattle.std.proofs.lemmas.Grind.{common_steps}

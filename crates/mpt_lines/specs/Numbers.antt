@@ -1,6 +1,6 @@
 -- The words of a line that name a value, and the ranges of numbers. Each reading of a word gives its
 -- value, or the cause why the line is refused.
-use Rattle.std.specs.Prelude.{ℕ, ◌+◌, ◌-◌, ◌*◌, ◌^◌, ◌/◌, ◌%◌, ◌==◌, ◌&&◌, ◌||◌, not, min, nat_le, Bool, if◌then◌else◌, List, [], ◌∷◌, length, fold, Option, Result, Ok, Err, slice_index}
+use Rattle.std.specs.Prelude.{ℕ, ◌+◌, ◌-◌, ◌*◌, ◌^◌, ◌/◌, ◌%◌, ◌==◌, ◌&&◌, ◌||◌, not, min, nat_le, Bool, if◌then◌else◌, List, length, fold, Option, Result, Ok, Err, slice_index}
 use Rattle.std.specs.Result.{result_ok}
 use Rattle.std.specs.Int.{from_be_bytes, w64}
 use Rattle.std.specs.List.{list_all}

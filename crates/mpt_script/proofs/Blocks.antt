@@ -1,5 +1,5 @@
 -- The inputs of the last submitter.
-use Rattle.std.proofs.Common.{◌≡◌, ℕ, ◌-◌, ◌<◌, ◌+◌, List, [], ◌∷◌, ◌++◌, length, get_or, set, zero, suc, Result, Ok, Err, OnOk, refl, sym, ◌∙◌, ap, arith}
+use Rattle.std.proofs.Common.{◌≡◌, ℕ, ◌-◌, ◌<◌, List, [], ◌∷◌, ◌++◌, length, get_or, set, zero, suc, Result, Ok, Err, OnOk, refl, ap, arith}
 use Rattle.mpt_trace.specs.declared.input.Input.{Input}
 use Rattle.mpt_script.specs.Planning.{onto_last}
 

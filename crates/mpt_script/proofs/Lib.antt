@@ -5,3 +5,8 @@ pub mod Turns
 pub mod Blocks
 pub mod PlanReading
 pub mod PrintingPlans
+pub mod ReadBack
+pub mod SchedulesBack
+pub mod Accepted
+pub mod ReadAllowed
+pub mod GeneratedAllowed

@@ -1,5 +1,5 @@
 -- Printing a plan part by part.
-use Rattle.std.proofs.Common.{◌≡◌, ℕ, ◌+◌, ◌<◌, ◌≤◌, List, [], ◌∷◌, ◌++◌, length, drop, get_or, refl, sym, ◌∙◌, ap, arith, append_assoc, append-nil, add-one, drop-cons}
+use Rattle.std.proofs.Common.{◌≡◌, ℕ, ◌+◌, ◌<◌, ◌≤◌, List, [], ◌∷◌, ◌++◌, length, drop, get_or, sym, ◌∙◌, arith, append_assoc, append-nil, add-one, drop-cons}
 use Rattle.std.proofs.lemmas.Grind.{common_steps}
 use Rattle.mpt_trace.specs.declared.input.Input.{Input}
 use Rattle.mpt_trace.specs.Numbers.{line_end}
@@ -8,7 +8,7 @@ use Rattle.mpt_script.specs.PrintedPlan.{expanders_text, submitter_text, submitt
 
 -- one more expander
 pub one_expander : (text whole : List ℕ) (n : ℕ) (phys : List ℕ) → n < length phys → text ++ expanders_text n (drop n phys) ≡ whole
-  → ((text ++ expander_text n (get_or phys n 0)) ++ line_end) ++ expanders_text (n + 1) (drop (n + 1) phys) ≡ whole
+    → ((text ++ expander_text n (get_or phys n 0)) ++ line_end) ++ expanders_text (n + 1) (drop (n + 1) phys) ≡ whole
 unfolding expanders_text
 one_expander text whole n phys less e =
     let split : drop n phys ≡ get_or phys n 0 ∷ drop (n + 1) phys = rw add-one (drop-cons phys n 0 less) in
@@ -24,7 +24,7 @@ all_expanders text whole n phys all e =
 
 -- one more submitter
 pub one_submitter : (text whole : List ℕ) (n : ℕ) (submitters : List (List Input)) (inputs : List Input) → n < length submitters → inputs ≡ get_or submitters n inputs → text ++ submitters_text n (drop n submitters) ≡ whole
-  → (text ++ submitter_text n inputs) ++ submitters_text (n + 1) (drop (n + 1) submitters) ≡ whole
+    → (text ++ submitter_text n inputs) ++ submitters_text (n + 1) (drop (n + 1) submitters) ≡ whole
 unfolding submitters_text
 one_submitter text whole n submitters inputs less is e =
     let split : drop n submitters ≡ get_or submitters n inputs ∷ drop (n + 1) submitters = rw add-one (drop-cons submitters n inputs less) in

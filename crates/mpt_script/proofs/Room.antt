@@ -1,7 +1,6 @@
 -- What a statement that is not refused leaves room for.
-use Rattle.std.proofs.Common.{◌≡◌, ◌<◌, ◌≤◌, false, arith}
+use Rattle.std.proofs.Common.{◌≡◌, ◌≤◌, false, arith}
 use Rattle.std.proofs.lemmas.Grind.{common_steps}
-use Rattle.mpt_script.specs.declared.line.Line.{Line}
 use Rattle.mpt_lines.specs.declared.statement.Statement.{Statement}
 use Rattle.mpt_lines.specs.declared.statement.Statement.TheVariants as statement
 use Rattle.mpt_script.specs.Declarations.{Declared, HasRoom, is_too_many, line_of}

@@ -1,5 +1,5 @@
 -- The schedules that numbers name.
-use Rattle.std.specs.Prelude.{ℕ, ◌+◌, ◌-◌, ◌*◌, ◌/◌, ◌%◌, ◌^◌, ◌==◌, ◌&&◌, not, nat_le, nat_lt, Bool, true, false, if◌then◌else◌, List, [], ◌∷◌, ◌++◌, map, set, zero, suc}
+use Rattle.std.specs.Prelude.{ℕ, ◌+◌, ◌-◌, ◌*◌, ◌/◌, ◌%◌, ◌==◌, ◌&&◌, not, nat_le, nat_lt, Bool, true, false, if◌then◌else◌, List, [], ◌∷◌, ◌++◌, map, set, zero, suc}
 use Rattle.std.specs.List.{slice_index_or}
 use Rattle.mpt_trace.specs.declared.command_form.CommandForm.TheVariants as form
 use Rattle.mpt_trace.specs.declared.input.Input.TheVariants as input

@@ -2,6 +2,7 @@
 pub use Rattle.mpt_lines.specs.Causes
 pub use Rattle.mpt_lines.specs.Statements
 pub use Rattle.mpt_lines.specs.Words
+pub mod Allowed
 pub mod Declarations
 pub mod Generator
 pub mod Hexadecimal

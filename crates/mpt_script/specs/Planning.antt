@@ -29,7 +29,7 @@ nothing_planned = record {
   numbers = [];
   lines = 0;
   plan = record { queues = 1; disks = []; phys = []; plugs = []; submitters = []; fabric = [] };
-  }
+}
 
 abbrev pub is_fabric : Block → Bool
 is_fabric block.Fabric = true

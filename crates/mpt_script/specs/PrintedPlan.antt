@@ -1,5 +1,5 @@
 -- The printed text of a plan.
-use Rattle.std.specs.Prelude.{ℕ, ◌+◌, ◌≤◌, nat_le, if◌then◌else◌, List, [], ◌∷◌, ◌++◌, codes, decimal}
+use Rattle.std.specs.Prelude.{ℕ, ◌+◌, nat_le, if◌then◌else◌, List, [], ◌∷◌, ◌++◌, codes, decimal}
 use Rattle.std.specs.List.{flat_map}
 use Rattle.mpt_trace.specs.declared.disk_spec.DiskSpec.{DiskSpec}
 use Rattle.mpt_trace.specs.declared.input.Input.{Input}

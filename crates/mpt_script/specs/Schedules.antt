@@ -1,6 +1,6 @@
 -- The text of a schedule: the lines that it stands for, or its first faulty line and that line's first
 -- cause.
-use Rattle.std.specs.Prelude.{ℕ, ◌+◌, ◌==◌, ◌||◌, ◌≡◌, min, Bool, if◌then◌else◌, List, [], ◌∷◌, ◌++◌, length, slice_index, Option, Some, None, Result, Ok, Err, ⊤}
+use Rattle.std.specs.Prelude.{ℕ, ◌+◌, ◌==◌, ◌||◌, ◌≡◌, min, Bool, if◌then◌else◌, List, [], ◌∷◌, length, slice_index, Option, Some, None, Result, Ok, Err, ⊤}
 use Rattle.mpt_lines.specs.declared.fault.Cause.{Cause}
 use Rattle.mpt_lines.specs.declared.fault.Cause.TheVariants.{Unended}
 use Rattle.mpt_lines.specs.declared.fault.ScriptFault.{ScriptFault}

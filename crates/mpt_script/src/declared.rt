@@ -4,10 +4,9 @@ ghost use Rattle.std.specs.List.{list_any};
 ghost use Rattle.mpt_script.specs.Declarations as spec;
 ghost use Rattle.mpt_script.specs.Planning as plan;
 
-use mpt_lines::Cause;
 use crate::line::Line;
 use crate::stage::Stage;
-use mpt_lines::Statement;
+use mpt_lines::{Cause, Statement};
 use mpt_text::OutOfMemory;
 use mpt_trace::{Address, Choice, CommandForm, Input};
 use std::alloc::Global;

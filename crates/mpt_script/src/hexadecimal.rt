@@ -3,8 +3,8 @@ ghost use Rattle.std.specs.Prelude.{◌≡◌, ◌⊎◌, not, filter, IfOk, IfE
 ghost use Rattle.mpt_script.specs.Hexadecimal.{is_white, hexadecimal, bytes_of_digits};
 ghost use Rattle.mpt_lines.specs.declared.fault.Cause.TheVariants as cause;
 
-use mpt_lines::{Cause, ScriptFault};
 use hex::FromHexError;
+use mpt_lines::{Cause, ScriptFault};
 use mpt_text::OutOfMemory;
 use std::alloc::Global;
 

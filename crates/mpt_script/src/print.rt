@@ -1,5 +1,6 @@
 //! Printing schedules.
 ghost use Rattle.std.specs.Prelude.{◌≡◌, ◌≤◌, ◌++◌, IfOk, OnOk};
+ghost use Rattle.mpt_script.specs.Schedules.{schedule_of};
 ghost use Rattle.mpt_trace.specs.Numbers.{line_end};
 ghost use Rattle.mpt_script.specs.Printed.{count_text, disk_text, expander_text, expanders_of, line_text, schedule_text};
 
@@ -9,9 +10,11 @@ use mpt_text::{OutOfMemory, Text};
 use mpt_trace::{DiskSpec, push_address, push_choice, push_input};
 use std::alloc::Global;
 
-/// The text of a schedule, each line with lower-case digits and without a count of 1.
+/// The text of a schedule, each line with lower-case digits and without a count of 1. The text reads as
+/// the schedule.
 pub fn print_schedule(alloc: Global, schedule: &Schedule) -> Result<Text, OutOfMemory>
-    ensures { IfOk result (λ text. text ≡ schedule_text 0 schedule.now) }
+    ensures text { IfOk result (λ text. text ≡ schedule_text 0 schedule.now) }
+    ensures reads_back { IfOk result (λ text. schedule_of text ≡ Ok schedule.now) }
 {
     let mut text = Text::new(alloc);
     let mut expanders = 0;

@@ -1,19 +1,18 @@
 //! Schedules, and reading them.
-ghost use Rattle.std.specs.Prelude.{◌≡◌, ◌==◌, ◌++◌, IfErr, IfOk, IfSome, OnOk};
+ghost use Rattle.std.specs.Prelude.{◌≡◌, ◌==◌, ◌++◌, IfErr, IfOk, IfSome, IsTrue, OnOk};
+ghost use Rattle.mpt_script.specs.Allowed.{is_schedule};
 ghost use Rattle.std.specs.Option.{option_to_list};
 ghost use Rattle.mpt_script.specs.Schedules.{after_said, line_value, schedule_of, says_nothing, Refuses};
 ghost use Rattle.mpt_script.specs.Declarations as spec;
 
 use crate::declared::Declared;
-use mpt_lines::{Cause, ScriptFault};
 use crate::line::Line;
-use mpt_lines::Pieces;
-use mpt_lines::schedule_line;
+use mpt_lines::{Cause, Pieces, ScriptFault, schedule_line};
 use mpt_text::OutOfMemory;
 use std::alloc::Global;
 use std::marker::Model;
 
-/// A schedule. A contract sees it as the list of its lines.
+/// A schedule: lines that a text can stand for. A contract sees it as their list.
 #[derive(Drop)]
 pub struct Schedule {
     lines: Vec<Line>,
@@ -26,19 +25,26 @@ impl Model for Schedule {
     ghost Value = { List Line };
 
     ghost view = { λ s. s.lines.items };
+
+    ghost use Rattle.std.specs.Prelude.{IsTrue};
+    ghost use Rattle.mpt_script.specs.Allowed.{is_schedule};
+
+    ghost invariant = { λ s. IsTrue (is_schedule s.lines.items) };
 }
 
 impl Schedule {
     // The lines are those of a schedule.
     pub(crate) fn from_lines(lines: Vec<Line>) -> Schedule
+        requires { IsTrue (is_schedule lines.items) }
         ensures { result ≡ lines.items }
     {
         Schedule { lines }
     }
 
-    /// Its lines in order.
+    /// Its lines in order: those that a text can stand for.
     pub fn lines(&self) -> &[Line]
-        ensures { result.now ≡ self.now }
+        ensures lines { result.now ≡ self.now }
+        ensures allowed { IsTrue (is_schedule self.now) }
     {
         &self.lines
     }
@@ -60,7 +66,7 @@ pub fn read_schedule(alloc: Global, text: &[u8]) -> Result<Schedule, ScriptFault
         if left.is_empty() {
             // What follows the last line end.
             if line.is_empty() {
-                return Ok(Schedule { lines });
+                return Ok(Schedule::from_lines(lines));
             }
             return Err(ScriptFault::At {
                 line: number,
@@ -78,7 +84,7 @@ pub fn read_schedule(alloc: Global, text: &[u8]) -> Result<Schedule, ScriptFault
         }
         number = number.saturating_add(1);
     }
-    Ok(Schedule { lines })
+    Ok(Schedule::from_lines(lines))
 }
 
 // What a line says after what was declared, if it says something.
@@ -101,7 +107,11 @@ pub(crate) fn says_nothing(line: &[u8]) -> bool
 }
 
 // Adds what a line said, if it said something.
-fn add(declared: &mut Declared, lines: &mut Vec<Line>, said: Option<Line>) -> Result<(), OutOfMemory>
+fn add(
+    declared: &mut Declared,
+    lines: &mut Vec<Line>,
+    said: Option<Line>,
+) -> Result<(), OutOfMemory>
     requires { IfSome said (spec.HasRoom declared.old) }
     ensures declared { OnOk result (declared.new ≡ after_said declared.old said) }
     ensures lines { OnOk result (lines.new.items ≡ lines.old.items ++ option_to_list said) }

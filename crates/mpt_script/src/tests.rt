@@ -57,10 +57,7 @@ fn forms(rt: HostRuntime) -> Result<(), Fail> {
         ("\n\n#\n# drain\n", ""),
         (long, long),
         ("# 1\n\nqueues 1\n#\ndrain\n", "queues 1\ndrain\n"),
-        (
-            "disk 5000C5000000000A 16\n",
-            "disk 5000c5000000000a 16\n",
-        ),
+        ("disk 5000C5000000000A 16\n", "disk 5000c5000000000a 16\n"),
         ("ioc-take 1\n", "ioc-take\n"),
         (
             "submit 1 ABCDEF0123456789 write 0 1 FF\n",
@@ -107,7 +104,10 @@ fn causes(rt: HostRuntime) -> Result<(), Fail> {
         ("submit 1 5000c50000000001 raw 000 1\n", "1 form"),
         ("submit 1 5000c50000000001 raw  1\n", "1 form"),
         ("submit 1 5000c50000000001 raw 0g 1\n", "1 form"),
-        ("submit 99999999999999999999 5000c50000000001 bogus\n", "1 form"),
+        (
+            "submit 99999999999999999999 5000c50000000001 bogus\n",
+            "1 form",
+        ),
         ("fabric-run\n", "1 form"),
         ("fabric-run 1 2\n", "1 form"),
         ("host-put 1 2\n", "1 form"),
@@ -117,14 +117,20 @@ fn causes(rt: HostRuntime) -> Result<(), Fail> {
         ("queues 9\n", "1 range"),
         ("disk 5000c50000000001 0\n", "1 range"),
         ("disk 5000c50000000001 1025\n", "1 range"),
-        ("disk 5000c50000000001 340282366920938463463374607431768211457\n", "1 range"),
+        (
+            "disk 5000c50000000001 340282366920938463463374607431768211457\n",
+            "1 range",
+        ),
         ("expander 7 23\n", "1 range"),
         ("expander 0 0\n", "1 range"),
         ("submit 4294967296 5000c50000000001 tur\n", "1 range"),
         ("abort 18446744073709551616\n", "1 range"),
         ("submit 1 5000c50000000001 inquiry 65536\n", "1 range"),
         ("submit 1 5000c50000000001 read 4294967296 1\n", "1 range"),
-        ("submit 1 5000c50000000001 read16 18446744073709551616 1\n", "1 range"),
+        (
+            "submit 1 5000c50000000001 read16 18446744073709551616 1\n",
+            "1 range",
+        ),
         (
             "submit 1 5000c50000000001 raw \
              000102030405060708090a0b0c0d0e0f101112131415161718191a1b1c1d1e1f20 1\n",
@@ -143,7 +149,10 @@ fn causes(rt: HostRuntime) -> Result<(), Fail> {
             "disk 5000c50000000001 1\n# 2\ndisk 5000C50000000001 2\n",
             "3 again",
         ),
-        ("disk 5000c50000000001 16\nplug 5000c50000000002 0 0\n", "2 name"),
+        (
+            "disk 5000c50000000001 16\nplug 5000c50000000002 0 0\n",
+            "2 name",
+        ),
         (
             "disk 5000c50000000001 16\nexpander 0 1\nplug 5000c50000000001 0 1\n",
             "3 name",
@@ -177,7 +186,12 @@ fn limits_cuts_and_numbers(rt: HostRuntime) -> Result<(), Fail> {
         ("reset\n", 64, "", ""),
         ("unit\n", 64, "reset\n", "65 many"),
         (block, 4096, "submit 1 5000c50000000001 read 0 9\n", ""),
-        (block, 4096, "submit 1 5000c50000000001 inquiry 1\n", "4097 many"),
+        (
+            block,
+            4096,
+            "submit 1 5000c50000000001 inquiry 1\n",
+            "4097 many",
+        ),
     ];
     for (line, times, last, wanted) in cases {
         let text = repeated(alloc, line, times, last)?;
@@ -204,7 +218,11 @@ fn limits_cuts_and_numbers(rt: HostRuntime) -> Result<(), Fail> {
 
     let zero = print_schedule(alloc, &generate(alloc, 0)?)?;
     let head = b"plug 5000c50000000008 0 7\nstart\ndrain\nsubmit 1 5000c50000000005 write 4 1 01\n";
-    assert!(&rt; zero.as_bytes().windows(head.len()).any(|part| part == head.as_slice()));
+    assert!(&rt;
+        zero.as_bytes()
+            .windows(head.len())
+            .any(|part| part == head.as_slice())
+    );
     for number in [0, 7, u64::MAX] {
         let text = print_schedule(alloc, &generate(alloc, number)?)?;
         let again = answer(alloc, text.as_bytes())?;
@@ -247,8 +265,16 @@ fn plans(rt: HostRuntime) -> Result<(), Fail> {
         ("", "queues 1\n", ""),
         ("", short, short),
         ("", long, long),
-        (setup, "fabric\nplug 5000c50000000001 0 0\n", "fabric\nplug 5000c50000000001 0 0\n"),
-        (setup, "#\nplug 5000C50000000001 0 0\n\n", "plug 5000c50000000001 0 0\n"),
+        (
+            setup,
+            "fabric\nplug 5000c50000000001 0 0\n",
+            "fabric\nplug 5000c50000000001 0 0\n",
+        ),
+        (
+            setup,
+            "#\nplug 5000C50000000001 0 0\n\n",
+            "plug 5000c50000000001 0 0\n",
+        ),
         (setup, "submitter 0\nfabric\n", "submitter 0\n"),
     ];
     for (before, text, printed) in whole {
@@ -265,9 +291,15 @@ fn plans(rt: HostRuntime) -> Result<(), Fail> {
         ("fabric 1\n", "3 form"),
         ("submitter\n", "3 form"),
         ("submitter 00\n", "3 form"),
-        ("submitter 0\nsubmit 4294967296 5000c50000000001 tur\n", "4 range"),
+        (
+            "submitter 0\nsubmit 4294967296 5000c50000000001 tur\n",
+            "4 range",
+        ),
         ("queues 2\n", "3 order"),
-        ("plug 5000c50000000001 0 0\ndisk 5000c50000000002 1\n", "4 order"),
+        (
+            "plug 5000c50000000001 0 0\ndisk 5000c50000000002 1\n",
+            "4 order",
+        ),
         ("submitter 0\ndisk 5000c50000000002 1\n", "4 order"),
         ("fabric\nexpander 1 1\n", "4 order"),
         ("submitter 0\nplug 5000c50000000001 0 0\n", "4 order"),

@@ -1,4 +1,4 @@
-use Rattle.std.proofs.Common.{◌≡◌, ◌∙◌, sym}
+use Rattle.std.proofs.Common.{◌∙◌, sym}
 use Rattle.mpt_script.proofs.PlanReading.{planned_all, planned_refused, planned_rest, planned_said, planned_unended}
 use Rattle.mpt_script.proofs.plan_text.read_plan.Goals as goal
 
@@ -21,7 +21,7 @@ pub loop-line-preserved : goal.loop-line-preserved
 loop-line-preserved c =
     let inv = rw c.in-Some.ensures at c.loop-line.invariant in
     rw (c.in_ok-add-in-Ok.ensures, c.saturating_add-number.ensures)
-      (inv ∙ planned_said c.loop-line.number c.loop-line.planning c.in-Some.line.now c.take.new.self c.in-Ok.said (sym c.is_empty.ensures ∙ c.if-is_empty.false) (sym c.plan_value.ensures.value ∙ c.in-Ok.is))
+    (inv ∙ planned_said c.loop-line.number c.loop-line.planning c.in-Some.line.now c.take.new.self c.in-Ok.said (sym c.is_empty.ensures ∙ c.if-is_empty.false) (sym c.plan_value.ensures.value ∙ c.in-Ok.is))
 
 pub returns-clause-read : goal.returns-clause-read
 returns-clause-read c =
