@@ -1,6 +1,8 @@
 -- What the lines of a plan have declared, and the causes that rest on it.
-use Rattle.std.specs.Prelude.{ℕ, ◌+◌, ◌==◌, ◌||◌, not, nat_le, ◌≤◌, Bool, true, false, if◌then◌else◌, List, [], ◌∷◌, ◌++◌, length, Result, Ok, Err}
+use Rattle.std.specs.Prelude.{ℕ, ◌+◌, ◌==◌, ◌||◌, not, nat_le, ◌≤◌, Bool, true, false, if◌then◌else◌, List, [], ◌∷◌, ◌++◌, length, Option, None, Some, Result, Ok, Err}
 use Rattle.std.specs.List.{list_any}
+use Rattle.std.specs.Ordering.{nat_cmp}
+use Rattle.std.specs.BTreeSet.{insert_key}
 use Rattle.mpt_lines.specs.declared.fault.Cause.{Cause}
 use Rattle.mpt_lines.specs.declared.fault.Cause.TheVariants.{Order, Again, Many, Name}
 use Rattle.mpt_lines.specs.declared.statement.PlanStatement.{PlanStatement}
@@ -96,9 +98,14 @@ HasPlanRoom p (planned.Line said) = HasRoom p.declared said × (p.lines + lines_
 HasPlanRoom p _ = Unit {0}
 
 -- the submission's number in a line, if it has one
-abbrev pub numbers_of : Line → List ℕ
-numbers_of (line.Input (input.Submit n address form)) = n ∷ []
-numbers_of _ = []
+abbrev pub number_of : Line → Option ℕ
+number_of (line.Input (input.Submit n address form)) = Some n
+number_of _ = None
+
+-- the submissions' numbers, in order, with that of a line
+abbrev pub noted : List ℕ → Option ℕ → List ℕ
+noted numbers (Some n) = insert_key nat_cmp numbers n
+noted numbers None = numbers
 
 -- an input at the end of the last submitter's
 abbrev pub onto_last : List (List Input) → Input → List (List Input)
@@ -131,6 +138,6 @@ begun d = record d { stage = Steps }
 
 -- the plan after a line
 abbrev pub planned_after : PlanState → PlanLine → PlanState
-planned_after p (planned.Line said) = record p { declared = after p.declared said; numbers = p.numbers ++ numbers_of said; lines = p.lines + lines_of p.block said; plan = extended p.block p.plan said }
+planned_after p (planned.Line said) = record p { declared = after p.declared said; numbers = noted p.numbers (number_of said); lines = p.lines + lines_of p.block said; plan = extended p.block p.plan said }
 planned_after p planned.Submitter = record p { block = block.Submitter; declared = begun p.declared; plan = with_submitter p.plan }
 planned_after p planned.Fabric = record p { block = block.Fabric; declared = begun p.declared }

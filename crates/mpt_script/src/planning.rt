@@ -1,7 +1,6 @@
 //! What the lines of a plan have declared, and the causes that rest on it.
 ghost use Rattle.std.specs.Prelude.{◌≡◌, ◌==◌, ◌<◌, ◌≤◌, IfOk, OnOk, length};
 ghost use Rattle.std.specs.List.{list_any};
-ghost use Rattle.std.specs.Option.{option_to_list};
 ghost use Rattle.mpt_script.specs.Planning as spec;
 
 use crate::declared::{Declared, line_of};
@@ -11,6 +10,7 @@ use mpt_lines::{Cause, PlanStatement, Statement};
 use mpt_text::OutOfMemory;
 use mpt_trace::Input;
 use std::alloc::Global;
+use std::collections::BTreeSet;
 use std::marker::Model;
 
 /// The most submitters.
@@ -46,8 +46,8 @@ pub(crate) enum PlanLine {
 pub(crate) struct Planning {
     block: Block,
     declared: Declared,
-    // The numbers of the submissions, of which there are at most 4,096.
-    numbers: Vec<u32>,
+    // The numbers of the submissions.
+    numbers: BTreeSet<u32>,
     lines: u32,
     plan: Plan,
 }
@@ -58,7 +58,7 @@ impl Model for Planning {
 
     ghost Value = { PlanState };
 
-    ghost view = { λ p. record { block = p.block; declared = p.declared; numbers = p.numbers.items; lines = p.lines; plan = p.plan } };
+    ghost view = { λ p. record { block = p.block; declared = p.declared; numbers = p.numbers.keys; lines = p.lines; plan = p.plan } };
 
     ghost invariant = { λ p. p.lines ≤ 4096 };
 }
@@ -71,7 +71,7 @@ impl Planning {
         Planning {
             block: Block::Setup,
             declared: Declared::new(alloc),
-            numbers: Vec::new(alloc),
+            numbers: BTreeSet::new(alloc),
             lines: 0,
             plan: Plan {
                 queues: 1,
@@ -168,7 +168,7 @@ impl Planning {
     {
         self.declared.note(&line)?;
         if let Some(n) = number_of(&line) {
-            self.numbers.push(n)?;
+            self.numbers.insert(n)?;
         }
         self.lines += lines_of(self.block, &line);
         self.plan.add_line(self.block, line)
@@ -184,11 +184,10 @@ impl Planning {
         }
     }
 
-    // Of at most 4,096 numbers.
     fn has_number(&self, n: u32) -> bool
         ensures { result ≡ list_any (λ m. m == n) self.now.numbers }
     {
-        self.numbers.iter().any(|m| *m == n)
+        self.numbers.contains(&n)
     }
 
     // Whether the submitters have as many lines as they may.
@@ -227,7 +226,7 @@ fn lines_of(block: Block, line: &Line) -> u32
 
 // The submission's number in a line, if it has one.
 fn number_of(line: &Line) -> Option<u32>
-    ensures { option_to_list result ≡ spec.numbers_of line.now }
+    ensures { result ≡ spec.number_of line.now }
 {
     match line {
         Line::Input(Input::Submit { n, .. }) => Some(*n),
