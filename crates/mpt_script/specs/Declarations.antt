@@ -1,6 +1,8 @@
 -- What the lines of a schedule have declared, and the causes that rest on it.
 use Rattle.std.specs.Prelude.{ℕ, ◌+◌, ◌*◌, ◌==◌, ◌&&◌, ◌||◌, not, nat_le, nat_lt, Bool, true, false, if◌then◌else◌, List, [], ◌∷◌, ◌++◌, length, slice_index, Result, Ok, Err, ◌<◌, ◌≤◌}
 use Rattle.std.specs.List.{list_any}
+use Rattle.std.specs.Ordering.{nat_cmp}
+use Rattle.std.specs.BTreeSet.{insert_key}
 use Rattle.mpt_trace.specs.declared.choice.Choice.{Choice}
 use Rattle.mpt_trace.specs.declared.choice.Choice.TheVariants.{IocPutOn, HostTakeOn}
 use Rattle.mpt_trace.specs.declared.command_form.CommandForm.{CommandForm}
@@ -127,7 +129,7 @@ judged d said =
 -- what is declared after a line
 abbrev pub after : Declared → Line → Declared
 after d (line.Queues queues) = record d { stage = Declarations; queues = queues }
-after d (line.Disk disk) = record d { stage = Declarations; addresses = d.addresses ++ disk.address ∷ [] }
+after d (line.Disk disk) = record d { stage = Declarations; addresses = insert_key nat_cmp d.addresses disk.address }
 after d (line.Expander phys) = record d { stage = Declarations; phys = d.phys ++ phys ∷ [] }
 after d (line.Input given) = record d { stage = Steps; resets = d.resets + resets_of given; total = d.total + data_of given }
 after d (line.Choice choice count) = record d { stage = Steps }

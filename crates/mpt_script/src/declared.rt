@@ -10,6 +10,7 @@ use mpt_lines::{Cause, Statement};
 use mpt_text::OutOfMemory;
 use mpt_trace::{Address, Choice, CommandForm, Input};
 use std::alloc::Global;
+use std::collections::BTreeSet;
 use std::marker::Model;
 
 /// The most disks.
@@ -32,7 +33,7 @@ const TRANSFER: u32 = 4096;
 pub(crate) struct Declared {
     stage: Stage,
     queues: u8,
-    addresses: Vec<Address>,
+    addresses: BTreeSet<Address>,
     phys: Vec<u8>,
     resets: u32,
     total: u32,
@@ -44,9 +45,9 @@ impl Model for Declared {
 
     ghost Value = { Declared };
 
-    ghost view = { λ d. record { stage = d.stage; queues = d.queues; addresses = d.addresses.items; phys = d.phys.items; resets = d.resets; total = d.total } };
+    ghost view = { λ d. record { stage = d.stage; queues = d.queues; addresses = d.addresses.keys; phys = d.phys.items; resets = d.resets; total = d.total } };
 
-    ghost invariant = { λ d. (length d.addresses.items ≤ 64) × (length d.phys.items ≤ 16) × (d.resets ≤ 64) × (d.total ≤ 16777216) };
+    ghost invariant = { λ d. (length d.addresses.keys ≤ 64) × (length d.phys.items ≤ 16) × (d.resets ≤ 64) × (d.total ≤ 16777216) };
 }
 
 impl Declared {
@@ -57,7 +58,7 @@ impl Declared {
         Declared {
             stage: Stage::First,
             queues: 1,
-            addresses: Vec::new(alloc),
+            addresses: BTreeSet::new(alloc),
             phys: Vec::new(alloc),
             resets: 0,
             total: 0,
@@ -136,11 +137,10 @@ impl Declared {
         }
     }
 
-    // Of at most 64 disks.
     fn has_disk(&self, address: Address) -> bool
         ensures { result ≡ spec.has_disk self.now address }
     {
-        self.addresses.iter().any(|a| *a == address)
+        self.addresses.contains(&address)
     }
 
     fn has_phy(&self, expander: u128, phy: u128) -> bool
@@ -177,7 +177,7 @@ impl Declared {
                 self.stage = Stage::Declarations;
             }
             Line::Disk(disk) => {
-                self.addresses.push(disk.address)?;
+                self.addresses.insert(disk.address)?;
                 self.stage = Stage::Declarations;
             }
             Line::Expander { phys } => {
