@@ -189,14 +189,14 @@ command_fits (word ∷ others) =
 fits_said : (f g : Statement) → (let r : Result Statement Cause = Ok f in r) ≡ Ok g → statement_fits f ≡ true → statement_fits g ≡ true
 fits_said f g e h = subst (λ (k : Statement). statement_fits k ≡ true) (ok_value f g e) h
 
-queues_fits : (ws : List (List ℕ)) (s : Statement) → queues ws ≡ Ok s → statement_fits s ≡ true
+pub queues_fits : (ws : List (List ℕ)) (s : Statement) → queues ws ≡ Ok s → statement_fits s ≡ true
 queues_fits ws s e =
     let w = bind_ok (one ws) _ s e in
     let n = bind_ok (number w.0) _ s w.2 in
     let q = bind_ok (within 1 8 n.0) _ s n.2 in
     fits_said (statement.Queues q.0) s q.2 (within_ok 1 8 n.0 q.0 q.1)
 
-disk_fits : (ws : List (List ℕ)) (s : Statement) → disk ws ≡ Ok s → statement_fits s ≡ true
+pub disk_fits : (ws : List (List ℕ)) (s : Statement) → disk ws ≡ Ok s → statement_fits s ≡ true
 disk_fits ws s e =
     let w = bind_ok (two ws) _ s e in
     let a = bind_ok (address w.0.0) _ s w.2 in
@@ -205,7 +205,7 @@ disk_fits ws s e =
     let range = and_parts (nat_le 1 b.0) (nat_le b.0 1024) (within_ok 1 1024 n.0 b.0 b.1) in
     fits_said (statement.Disk (record { address = a.0; blocks = b.0 })) s b.2 (rw (address_ok w.0.0 a.0 a.1, range.0, range.1) refl)
 
-expander_fits : (ws : List (List ℕ)) (s : Statement) → expander ws ≡ Ok s → statement_fits s ≡ true
+pub expander_fits : (ws : List (List ℕ)) (s : Statement) → expander ws ≡ Ok s → statement_fits s ≡ true
 expander_fits ws s e =
     let w = bind_ok (two ws) _ s e in
     let m = bind_ok (number w.0.0) _ s w.2 in
@@ -213,7 +213,7 @@ expander_fits ws s e =
     let p = bind_ok (within 1 22 n.0) _ s n.2 in
     fits_said (statement.Expander m.0 p.0) s p.2 (within_ok 1 22 n.0 p.0 p.1)
 
-plug_fits : (ws : List (List ℕ)) (s : Statement) → plug ws ≡ Ok s → statement_fits s ≡ true
+pub plug_fits : (ws : List (List ℕ)) (s : Statement) → plug ws ≡ Ok s → statement_fits s ≡ true
 plug_fits ws s e =
     let w = bind_ok (three ws) _ s e in
     let a = bind_ok (address w.0.0) _ s w.2 in
@@ -221,19 +221,19 @@ plug_fits ws s e =
     let n = bind_ok (number w.0.2) _ s m.2 in
     fits_said (statement.Plug a.0 m.0 n.0) s n.2 (address_ok w.0.0 a.0 a.1)
 
-unplug_fits : (ws : List (List ℕ)) (s : Statement) → unplug ws ≡ Ok s → statement_fits s ≡ true
+pub unplug_fits : (ws : List (List ℕ)) (s : Statement) → unplug ws ≡ Ok s → statement_fits s ≡ true
 unplug_fits ws s e =
     let w = bind_ok (one ws) _ s e in
     let a = bind_ok (address w.0) _ s w.2 in
     fits_said (statement.Unplug a.0) s a.2 (address_ok w.0 a.0 a.1)
 
-treset_fits : (ws : List (List ℕ)) (s : Statement) → treset ws ≡ Ok s → statement_fits s ≡ true
+pub treset_fits : (ws : List (List ℕ)) (s : Statement) → treset ws ≡ Ok s → statement_fits s ≡ true
 treset_fits ws s e =
     let w = bind_ok (one ws) _ s e in
     let a = bind_ok (address w.0) _ s w.2 in
     fits_said (statement.Host (input.TargetReset a.0)) s a.2 (address_ok w.0 a.0 a.1)
 
-submit_fits : (ws : List (List ℕ)) (s : Statement) → submit ws ≡ Ok s → statement_fits s ≡ true
+pub submit_fits : (ws : List (List ℕ)) (s : Statement) → submit ws ≡ Ok s → statement_fits s ≡ true
 submit_fits [] s e = refused Form s _ e
 submit_fits (first ∷ []) s e = refused Form s _ e
 submit_fits (first ∷ second ∷ others) s e =
@@ -243,7 +243,7 @@ submit_fits (first ∷ second ∷ others) s e =
     let n = bind_ok (within 0 4294967295 m.0) _ s f.2 in
     fits_said (statement.Host (input.Submit n.0 a.0 f.0)) s n.2 (rw (most_ok 4294967295 m.0 n.0 n.1, address_ok second a.0 a.1, command_fits others f.0 f.1) refl)
 
-abort_fits : (ws : List (List ℕ)) (s : Statement) → abort ws ≡ Ok s → statement_fits s ≡ true
+pub abort_fits : (ws : List (List ℕ)) (s : Statement) → abort ws ≡ Ok s → statement_fits s ≡ true
 abort_fits ws s e =
     let w = bind_ok (one ws) _ s e in
     let m = bind_ok (number w.0) _ s w.2 in
@@ -286,7 +286,7 @@ host_take_on_fits ws s e =
 start_fits : (ws : List (List ℕ)) (s : Statement) → start ws ≡ Ok s → statement_fits s ≡ true
 start_fits ws s e = fits_said (statement.Host input.Start) s (bind_ok (nothing ws) _ s e).2 refl
 
-reset_fits : (ws : List (List ℕ)) (s : Statement) → reset ws ≡ Ok s → statement_fits s ≡ true
+pub reset_fits : (ws : List (List ℕ)) (s : Statement) → reset ws ≡ Ok s → statement_fits s ≡ true
 reset_fits ws s e = fits_said (statement.Host input.Reset) s (bind_ok (nothing ws) _ s e).2 refl
 
 unit_fits : (ws : List (List ℕ)) (s : Statement) → unit ws ≡ Ok s → statement_fits s ≡ true

@@ -10,3 +10,5 @@ pub mod SchedulesBack
 pub mod Accepted
 pub mod ReadAllowed
 pub mod GeneratedAllowed
+pub mod PlanLines
+pub mod PlansBack

@@ -27,7 +27,7 @@ pub record Answered (d : Declared) (said : Statement) (l : Line) : Type 0 where
   pub known : is_unknown d said ≡ false
   pub line : line_of said ≡ l
 
-by_causes : (a b c e : Bool) (x l : Line) → cond a (Err Order) (cond b (Err Again) (cond c (Err Many) (cond e (Err Name) (Ok x)))) ≡ Ok l → (a ≡ false) × (b ≡ false) × (c ≡ false) × (e ≡ false) × (x ≡ l)
+pub by_causes : (a b c e : Bool) (x l : Line) → cond a (Err Order) (cond b (Err Again) (cond c (Err Many) (cond e (Err Name) (Ok x)))) ≡ Ok l → (a ≡ false) × (b ≡ false) × (c ≡ false) × (e ≡ false) × (x ≡ l)
 by_causes true b c e x l h = refused Order l _ h
 by_causes false true c e x l h = refused Again l _ h
 by_causes false false true e x l h = refused Many l _ h
@@ -54,11 +54,11 @@ narrow_at (p ∷ phys) zero h =
     narrow_here q is = grind (arith, common_steps, is)
 narrow_at (p ∷ phys) (suc k) h = narrow_at phys k (and_parts (nat_le p 22) (list_all (λ q. nat_le q 22) phys) h).1
 
-or_parts : (a b : Bool) → (a || b) ≡ false → (a ≡ false) × (b ≡ false)
+pub or_parts : (a b : Bool) → (a || b) ≡ false → (a ≡ false) × (b ≡ false)
 or_parts true b h = cc
 or_parts false b h = (refl, h)
 
-not_false : (a : Bool) → not a ≡ false → a ≡ true
+pub not_false : (a : Bool) → not a ≡ false → a ≡ true
 not_false true h = refl
 not_false false h = cc
 
@@ -71,7 +71,7 @@ plug_small d at e phy s h =
     let narrow = narrow_at d.phys e s.narrow in
     (grind (arith, common_steps, parts.0, few), grind (arith, common_steps, parts.1, narrow))
 
-host_statement : (given : Input) → is_host given ≡ true → input_statement given ≡ statement.Host given
+pub host_statement : (given : Input) → is_host given ≡ true → input_statement given ≡ statement.Host given
 host_statement input.Start h = refl
 host_statement (input.Submit n at f) h = refl
 host_statement (input.Abort n) h = refl
@@ -81,7 +81,7 @@ host_statement input.UnitReset h = refl
 host_statement (input.Plug at e phy) h = cc
 host_statement (input.Unplug at) h = cc
 
-next_expander : (d : Declared) (number phys : ℕ) → is_misplaced d (statement.Expander number phys) ≡ false → length d.phys ≡ number
+pub next_expander : (d : Declared) (number phys : ℕ) → is_misplaced d (statement.Expander number phys) ≡ false → length d.phys ≡ number
 next_expander d number phys h =
     let other = (or_parts (is_steps d.stage) (not (number == length d.phys)) h).1 in
     let same = not_false (number == length d.phys) other in
@@ -98,7 +98,7 @@ same_statement d (statement.Host given) h k = host_statement given (and_parts (i
 same_statement d (statement.Choice choice count) h k = refl
 same_statement d statement.Drain h k = refl
 
-fitting_line : (d : Declared) (said : Statement) → Sound d → statement_fits said ≡ true → is_unknown d said ≡ false → line_fits (line_of said) ≡ true
+pub fitting_line : (d : Declared) (said : Statement) → Sound d → statement_fits said ≡ true → is_unknown d said ≡ false → line_fits (line_of said) ≡ true
 fitting_line d (statement.Queues queues) s h k = h
 fitting_line d (statement.Disk disk) s h k = h
 fitting_line d (statement.Expander number phys) s h k = h
@@ -119,7 +119,7 @@ allowed_line d said l s h a =
     (rw (fits, same, a.placed, a.new, a.within, a.known) refl)
 
 -- after an answered line there are few expanders still
-sound_after : (d : Declared) (said : Statement) → Sound d → statement_fits said ≡ true → is_too_many d said ≡ false → Sound (after d (line_of said))
+pub sound_after : (d : Declared) (said : Statement) → Sound d → statement_fits said ≡ true → is_too_many d said ≡ false → Sound (after d (line_of said))
 sound_after d (statement.Queues queues) s h k = record { few = s.few; narrow = s.narrow }
 sound_after d (statement.Disk disk) s h k = record { few = s.few; narrow = s.narrow }
 sound_after d (statement.Expander number phys) s h k =

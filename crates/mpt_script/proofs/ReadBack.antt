@@ -167,15 +167,15 @@ pub record ReadsAs (text : List ℕ) (said : Statement) : Type 0 where
   pub some : (length word == 0) ≡ false
   pub reads : schedule_line (word ∷ others) ≡ Ok said
 
-address_small : (a : ℕ) → is_address a ≡ true → a < 2 ^ 64
+pub address_small : (a : ℕ) → is_address a ≡ true → a < 2 ^ 64
 address_small a h = small_of 18446744073709551615 a (lit< tt) h
 
 -- ---- inputs
 
-reads_treset : (a : List ℕ) (at : ℕ) → address a ≡ Ok at → treset (a ∷ []) ≡ Ok (statement.Host (input.TargetReset at))
+pub reads_treset : (a : List ℕ) (at : ℕ) → address a ≡ Ok at → treset (a ∷ []) ≡ Ok (statement.Host (input.TargetReset at))
 reads_treset a at e = rw e refl
 
-treset_back : (at : ℕ) → is_address at ≡ true → ReadsAs (input_line (input.TargetReset at)) (statement.Host (input.TargetReset at))
+abbrev pub treset_back : (at : ℕ) → is_address at ≡ true → ReadsAs (input_line (input.TargetReset at)) (statement.Host (input.TargetReset at))
 treset_back at h = record {
   word = codes "treset";
   others = address_text at ∷ [];
@@ -185,10 +185,10 @@ treset_back at h = record {
   reads = reads_treset (address_text at) at (address_address_text at (address_small at h));
 }
 
-reads_unplug : (a : List ℕ) (at : ℕ) → address a ≡ Ok at → unplug (a ∷ []) ≡ Ok (statement.Unplug at)
+pub reads_unplug : (a : List ℕ) (at : ℕ) → address a ≡ Ok at → unplug (a ∷ []) ≡ Ok (statement.Unplug at)
 reads_unplug a at e = rw e refl
 
-unplug_back : (at : ℕ) → is_address at ≡ true → ReadsAs (input_line (input.Unplug at)) (statement.Unplug at)
+abbrev pub unplug_back : (at : ℕ) → is_address at ≡ true → ReadsAs (input_line (input.Unplug at)) (statement.Unplug at)
 unplug_back at h = record {
   word = codes "unplug";
   others = address_text at ∷ [];
@@ -198,10 +198,10 @@ unplug_back at h = record {
   reads = reads_unplug (address_text at) at (address_address_text at (address_small at h));
 }
 
-reads_abort : (a : List ℕ) (n : ℕ) → number a ≡ Ok n → within 0 4294967295 n ≡ Ok n → abort (a ∷ []) ≡ Ok (statement.Host (input.Abort n))
+pub reads_abort : (a : List ℕ) (n : ℕ) → number a ≡ Ok n → within 0 4294967295 n ≡ Ok n → abort (a ∷ []) ≡ Ok (statement.Host (input.Abort n))
 reads_abort a n e w = rw (e, w) refl
 
-abort_back : (n : ℕ) → nat_le n 4294967295 ≡ true → ReadsAs (input_line (input.Abort n)) (statement.Host (input.Abort n))
+abbrev pub abort_back : (n : ℕ) → nat_le n 4294967295 ≡ true → ReadsAs (input_line (input.Abort n)) (statement.Host (input.Abort n))
 abort_back n h =
     let small = small_of 4294967295 n (lit< tt) h in
     record {
@@ -213,10 +213,10 @@ abort_back n h =
       reads = reads_abort (decimal n) n (number_decimal n small) (within_most 4294967295 n h);
     }
 
-reads_plug : (a b c : List ℕ) (at e phy : ℕ) → address a ≡ Ok at → number b ≡ Ok e → number c ≡ Ok phy → plug (a ∷ b ∷ c ∷ []) ≡ Ok (statement.Plug at e phy)
+pub reads_plug : (a b c : List ℕ) (at e phy : ℕ) → address a ≡ Ok at → number b ≡ Ok e → number c ≡ Ok phy → plug (a ∷ b ∷ c ∷ []) ≡ Ok (statement.Plug at e phy)
 reads_plug a b c at e phy f g h = rw (f, g, h) refl
 
-plug_back : (at e phy : ℕ) → (is_address at && is_byte e && is_byte phy) ≡ true → ReadsAs (input_line (input.Plug at e phy)) (statement.Plug at e phy)
+abbrev pub plug_back : (at e phy : ℕ) → (is_address at && is_byte e && is_byte phy) ≡ true → ReadsAs (input_line (input.Plug at e phy)) (statement.Plug at e phy)
 plug_back at e phy h =
     let outer = and_parts (is_address at && is_byte e) (is_byte phy) h in
     let inner = and_parts (is_address at) (is_byte e) outer.0 in
@@ -231,10 +231,10 @@ plug_back at e phy h =
       reads = reads_plug (address_text at) (decimal e) (decimal phy) at e phy (address_address_text at (address_small at inner.0)) (number_decimal e small) (number_decimal phy few);
     }
 
-reads_submit : (a b : List ℕ) (others : List (List ℕ)) (n at : ℕ) (f : CommandForm) → number a ≡ Ok n → address b ≡ Ok at → command others ≡ Ok f → within 0 4294967295 n ≡ Ok n → submit (a ∷ b ∷ others) ≡ Ok (statement.Host (input.Submit n at f))
+pub reads_submit : (a b : List ℕ) (others : List (List ℕ)) (n at : ℕ) (f : CommandForm) → number a ≡ Ok n → address b ≡ Ok at → command others ≡ Ok f → within 0 4294967295 n ≡ Ok n → submit (a ∷ b ∷ others) ≡ Ok (statement.Host (input.Submit n at f))
 reads_submit a b others n at f e g h w = rw (e, g, h, w) refl
 
-submit_back : (n at : ℕ) (f : CommandForm) → input_fits (input.Submit n at f) ≡ true → ReadsAs (input_line (input.Submit n at f)) (statement.Host (input.Submit n at f))
+abbrev pub submit_back : (n at : ℕ) (f : CommandForm) → input_fits (input.Submit n at f) ≡ true → ReadsAs (input_line (input.Submit n at f)) (statement.Host (input.Submit n at f))
 submit_back n at f h =
     let outer = and_parts (nat_le n 4294967295 && is_address at) (form_fits f) h in
     let inner = and_parts (nat_le n 4294967295) (is_address at) outer.0 in
@@ -262,10 +262,10 @@ input_back (input.Unplug at) h = unplug_back at h
 
 -- ---- declarations
 
-reads_queues : (a : List ℕ) (q : ℕ) → number a ≡ Ok q → within 1 8 q ≡ Ok q → queues (a ∷ []) ≡ Ok (statement.Queues q)
+pub reads_queues : (a : List ℕ) (q : ℕ) → number a ≡ Ok q → within 1 8 q ≡ Ok q → queues (a ∷ []) ≡ Ok (statement.Queues q)
 reads_queues a q e w = rw (e, w) refl
 
-pub queues_back : (q : ℕ) → (nat_le 1 q && nat_le q 8) ≡ true → ReadsAs (codes "queues " ++ decimal q) (statement.Queues q)
+abbrev pub queues_back : (q : ℕ) → (nat_le 1 q && nat_le q 8) ≡ true → ReadsAs (codes "queues " ++ decimal q) (statement.Queues q)
 queues_back q h =
     let small = small_of 8 q (lit< tt) (and_parts (nat_le 1 q) (nat_le q 8) h).1 in
     record {
@@ -277,10 +277,10 @@ queues_back q h =
       reads = reads_queues (decimal q) q (number_decimal q small) (within_range 1 8 q h);
     }
 
-reads_disk : (a b : List ℕ) (at blocks : ℕ) → address a ≡ Ok at → number b ≡ Ok blocks → within 1 1024 blocks ≡ Ok blocks → disk (a ∷ b ∷ []) ≡ Ok (statement.Disk (record { address = at; blocks = blocks }))
+pub reads_disk : (a b : List ℕ) (at blocks : ℕ) → address a ≡ Ok at → number b ≡ Ok blocks → within 1 1024 blocks ≡ Ok blocks → disk (a ∷ b ∷ []) ≡ Ok (statement.Disk (record { address = at; blocks = blocks }))
 reads_disk a b at blocks e f w = rw (e, f, w) refl
 
-pub disk_back : (d : DiskSpec) → (is_address d.address && nat_le 1 d.blocks && nat_le d.blocks 1024) ≡ true → ReadsAs (disk_text d) (statement.Disk d)
+abbrev pub disk_back : (d : DiskSpec) → (is_address d.address && nat_le 1 d.blocks && nat_le d.blocks 1024) ≡ true → ReadsAs (disk_text d) (statement.Disk d)
 disk_back d h =
     let outer = and_parts (is_address d.address && nat_le 1 d.blocks) (nat_le d.blocks 1024) h in
     let inner = and_parts (is_address d.address) (nat_le 1 d.blocks) outer.0 in
@@ -295,10 +295,10 @@ disk_back d h =
       reads = reads_disk (address_text d.address) (decimal d.blocks) d.address d.blocks (address_address_text d.address (address_small d.address inner.0)) (number_decimal d.blocks small) (within_range 1 1024 d.blocks range);
     }
 
-reads_expander : (a b : List ℕ) (e phys : ℕ) → number a ≡ Ok e → number b ≡ Ok phys → within 1 22 phys ≡ Ok phys → expander (a ∷ b ∷ []) ≡ Ok (statement.Expander e phys)
+pub reads_expander : (a b : List ℕ) (e phys : ℕ) → number a ≡ Ok e → number b ≡ Ok phys → within 1 22 phys ≡ Ok phys → expander (a ∷ b ∷ []) ≡ Ok (statement.Expander e phys)
 reads_expander a b e phys f g w = rw (f, g, w) refl
 
-pub expander_back : (e phys : ℕ) → e < 2 ^ 64 → (nat_le 1 phys && nat_le phys 22) ≡ true → ReadsAs (expander_text e phys) (statement.Expander e phys)
+abbrev pub expander_back : (e phys : ℕ) → e < 2 ^ 64 → (nat_le 1 phys && nat_le phys 22) ≡ true → ReadsAs (expander_text e phys) (statement.Expander e phys)
 expander_back e phys small h =
     let few = small_of 22 phys (lit< tt) (and_parts (nat_le 1 phys) (nat_le phys 22) h).1 in
     record {

@@ -89,7 +89,7 @@ phys_after d (line.Choice choice count) = sym (add-zero (length d.phys))
 phys_after d line.Drain = sym (add-zero (length d.phys))
 
 -- some piece is left of any text
-some_lines : (text : List ℕ) → (length (lines text) == 0) ≡ false
+pub some_lines : (text : List ℕ) → (length (lines text) == 0) ≡ false
 some_lines text =
     let some : length (lines text) ≡ count_by (λ b. b == 10) text + 1 = length-slice_split (λ b. b == 10) text in
     rw some (grind (arith, common_steps))

@@ -1,5 +1,5 @@
 -- The text of a plan: the plan that it stands for, or its first faulty line and that line's first cause.
-use Rattle.std.specs.Prelude.{ℕ, ◌==◌, if◌then◌else◌, List, [], ◌∷◌, length, Option, Some, None, Result, Ok, Err}
+use Rattle.std.specs.Prelude.{ℕ, ◌==◌, ◌≡◌, if◌then◌else◌, List, [], ◌∷◌, length, Option, Some, None, Result, Ok, Err}
 use Rattle.mpt_lines.specs.declared.fault.Cause.{Cause}
 use Rattle.mpt_lines.specs.declared.fault.Cause.TheVariants.{Unended}
 use Rattle.mpt_lines.specs.Numbers.{◌>>=◌}
@@ -34,3 +34,7 @@ plan_from number p (line ∷ next ∷ others) = went_on number p (plan_value p l
 -- what a text stands for
 abbrev pub plan_of : List ℕ → Result PlanParts Fault
 plan_of text = plan_from 1 nothing_planned (lines text)
+
+-- a plan that some text stands for
+abbrev pub IsPlan : PlanParts → Type 0
+IsPlan parts = (text : List ℕ) × (plan_of text ≡ Ok parts)

@@ -1,6 +1,7 @@
 //! Plans.
 ghost use Rattle.std.specs.Prelude.{◌≡◌, ◌++◌, [], ◌∷◌, OnOk};
 ghost use Rattle.mpt_script.specs.Planning as spec;
+ghost use Rattle.mpt_script.specs.Plans.{IsPlan};
 
 use crate::line::Line;
 use crate::planning::Block;
@@ -55,19 +56,18 @@ impl Inputs {
     }
 }
 
-/// A plan: what the parts of a session do, side by side. A contract sees it as the record of its
-/// parts, each in order.
+/// The parts of a plan that is being read, each in order. A contract sees them as their record.
 #[derive(Drop)]
-pub struct Plan {
-    pub(crate) queues: u8,
-    pub(crate) disks: Vec<DiskSpec>,
-    pub(crate) phys: Vec<u8>,
-    pub(crate) plugs: Inputs,
-    pub(crate) submitters: Vec<Inputs>,
-    pub(crate) fabric: Inputs,
+pub(crate) struct Parts {
+    pub queues: u8,
+    pub disks: Vec<DiskSpec>,
+    pub phys: Vec<u8>,
+    pub plugs: Inputs,
+    pub submitters: Vec<Inputs>,
+    pub fabric: Inputs,
 }
 
-impl Model for Plan {
+impl Model for Parts {
     ghost use Rattle.mpt_script.specs.PlanParts.{PlanParts};
 
     ghost Value = { PlanParts };
@@ -75,51 +75,9 @@ impl Model for Plan {
     ghost view = { λ p. record { queues = p.queues; disks = p.disks.items; phys = p.phys.items; plugs = p.plugs; submitters = p.submitters.items; fabric = p.fabric } };
 }
 
-impl Plan {
-    /// How many reply post queues there are, 1 to 8.
-    pub fn queues(&self) -> u8
-        ensures { result ≡ self.now.queues }
-    {
-        self.queues
-    }
-
-    /// The disks.
-    pub fn disks(&self) -> &[DiskSpec]
-        ensures { result.now ≡ self.now.disks }
-    {
-        &self.disks
-    }
-
-    /// How many phys each expander has.
-    pub fn phys(&self) -> &[u8]
-        ensures { result.now ≡ self.now.phys }
-    {
-        &self.phys
-    }
-
-    /// The plugs before the first submitter.
-    pub fn plugs(&self) -> &Inputs
-        ensures { result.now ≡ self.now.plugs }
-    {
-        &self.plugs
-    }
-
-    /// The submitters' inputs.
-    pub fn submitters(&self) -> &[Inputs]
-        ensures { result.now ≡ self.now.submitters }
-    {
-        &self.submitters
-    }
-
-    /// The inputs of the fabric's block.
-    pub fn fabric(&self) -> &Inputs
-        ensures { result.now ≡ self.now.fabric }
-    {
-        &self.fabric
-    }
-
+impl Parts {
     // Adds a line in a block.
-    pub(crate) fn add_line(&mut self, block: Block, line: Line) -> Result<(), OutOfMemory>
+    pub fn add_line(&mut self, block: Block, line: Line) -> Result<(), OutOfMemory>
         ensures { OnOk result (self.new ≡ spec.extended block self.old line) }
     {
         match line {
@@ -143,11 +101,82 @@ impl Plan {
     }
 
     // Adds a submitter without inputs.
-    pub(crate) fn add_submitter(&mut self, alloc: Global) -> Result<(), OutOfMemory>
+    pub fn add_submitter(&mut self, alloc: Global) -> Result<(), OutOfMemory>
         ensures { OnOk result (self.new ≡ spec.with_submitter self.old) }
     {
         self.submitters.push(Inputs::new(alloc))?;
         Ok(())
+    }
+}
+
+/// A plan: what the parts of a session do, side by side, as some text says it. A contract sees it as
+/// the record of its parts, each in order.
+#[derive(Drop)]
+pub struct Plan {
+    parts: Parts,
+}
+
+impl Model for Plan {
+    ghost use Rattle.mpt_script.specs.PlanParts.{PlanParts};
+    ghost use Rattle.mpt_script.specs.Plans.{IsPlan};
+
+    ghost Value = { PlanParts };
+
+    ghost view = { λ p. p.parts };
+
+    ghost invariant = { λ p. IsPlan p.parts };
+}
+
+impl Plan {
+    // The parts are those of a plan.
+    pub(crate) fn from_parts(parts: Parts) -> Plan
+        requires { IsPlan parts }
+        ensures { result ≡ parts }
+    {
+        Plan { parts }
+    }
+
+    /// How many reply post queues there are, 1 to 8. Some text stands for the plan.
+    pub fn queues(&self) -> u8
+        ensures queues { result ≡ self.now.queues }
+        ensures allowed { IsPlan self.now }
+    {
+        self.parts.queues
+    }
+
+    /// The disks.
+    pub fn disks(&self) -> &[DiskSpec]
+        ensures { result.now ≡ self.now.disks }
+    {
+        &self.parts.disks
+    }
+
+    /// How many phys each expander has.
+    pub fn phys(&self) -> &[u8]
+        ensures { result.now ≡ self.now.phys }
+    {
+        &self.parts.phys
+    }
+
+    /// The plugs before the first submitter.
+    pub fn plugs(&self) -> &Inputs
+        ensures { result.now ≡ self.now.plugs }
+    {
+        &self.parts.plugs
+    }
+
+    /// The submitters' inputs.
+    pub fn submitters(&self) -> &[Inputs]
+        ensures { result.now ≡ self.now.submitters }
+    {
+        &self.parts.submitters
+    }
+
+    /// The inputs of the fabric's block.
+    pub fn fabric(&self) -> &Inputs
+        ensures { result.now ≡ self.now.fabric }
+    {
+        &self.parts.fabric
     }
 
     /// The inputs, in the memory that they are in: the plugs before the first submitter, those of
@@ -157,7 +186,8 @@ impl Plan {
         ensures submitters { result.1.items ≡ self.submitters }
         ensures fabric { result.2 ≡ self.fabric }
     {
-        (self.plugs, self.submitters, self.fabric)
+        let parts = self.parts;
+        (parts.plugs, parts.submitters, parts.fabric)
     }
 }
 

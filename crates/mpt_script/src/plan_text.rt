@@ -26,7 +26,7 @@ pub fn read_plan(alloc: Global, text: &[u8]) -> Result<Plan, ScriptFault>
         if left.is_empty() {
             // What follows the last line end.
             if line.is_empty() {
-                return Ok(planning.into_plan());
+                return Ok(Plan::from_parts(planning.into_parts()));
             }
             return Err(ScriptFault::At {
                 line: number,
@@ -44,7 +44,7 @@ pub fn read_plan(alloc: Global, text: &[u8]) -> Result<Plan, ScriptFault>
         }
         number = number.saturating_add(1);
     }
-    Ok(planning.into_plan())
+    Ok(Plan::from_parts(planning.into_parts()))
 }
 
 // What a line says after what was planned, if it says something.

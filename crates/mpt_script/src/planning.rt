@@ -5,7 +5,7 @@ ghost use Rattle.mpt_script.specs.Planning as spec;
 
 use crate::declared::{Declared, line_of};
 use crate::line::Line;
-use crate::plan::{Inputs, Plan};
+use crate::plan::{Inputs, Parts};
 use mpt_lines::{Cause, PlanStatement, Statement};
 use mpt_text::OutOfMemory;
 use mpt_trace::Input;
@@ -49,7 +49,7 @@ pub(crate) struct Planning {
     // The numbers of the submissions.
     numbers: BTreeSet<u32>,
     lines: u32,
-    plan: Plan,
+    plan: Parts,
 }
 
 impl Model for Planning {
@@ -73,7 +73,7 @@ impl Planning {
             declared: Declared::new(alloc),
             numbers: BTreeSet::new(alloc),
             lines: 0,
-            plan: Plan {
+            plan: Parts {
                 queues: 1,
                 disks: Vec::new(alloc),
                 phys: Vec::new(alloc),
@@ -84,8 +84,8 @@ impl Planning {
         }
     }
 
-    /// The plan.
-    pub fn into_plan(self) -> Plan
+    /// The plan's parts.
+    pub fn into_parts(self) -> Parts
         ensures { result ≡ self.plan }
     {
         self.plan

@@ -1,5 +1,6 @@
 //! Printing plans.
 ghost use Rattle.std.specs.Prelude.{◌≡◌, ◌++◌, IfOk, OnOk};
+ghost use Rattle.mpt_script.specs.Plans.{plan_of};
 ghost use Rattle.mpt_script.specs.PrintedPlan as spec;
 
 use crate::plan::{Inputs, Plan};
@@ -9,9 +10,11 @@ use mpt_trace::{DiskSpec, Input, push_input};
 use std::alloc::Global;
 
 /// The text of a plan, each line with lower-case digits: the number of queues where it is above 1, the
-/// disks, the expanders, the plugs, the submitters, and the fabric's block where it has lines.
+/// disks, the expanders, the plugs, the submitters, and the fabric's block where it has lines. The text
+/// reads as the plan.
 pub fn print_plan(alloc: Global, plan: &Plan) -> Result<Text, OutOfMemory>
-    ensures { IfOk result (λ text. text ≡ spec.plan_text plan.now) }
+    ensures text { IfOk result (λ text. text ≡ spec.plan_text plan.now) }
+    ensures reads_back { IfOk result (λ text. plan_of text ≡ Ok plan.now) }
 {
     let mut text = Text::new(alloc);
     push_queues(&mut text, plan.queues())?;

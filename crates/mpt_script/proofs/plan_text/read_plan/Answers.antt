@@ -10,7 +10,7 @@ returns-in-Err-clause-refused c =
 pub returns-then-is_empty-2-clause-read : goal.returns-then-is_empty-2-clause-read
 returns-then-is_empty-2-clause-read c =
     let inv = rw c.in-Some.ensures at c.loop-line.invariant in
-    rw c.into_plan.ensures (inv ∙ planned_rest c.loop-line.number c.loop-line.planning c.in-Some.line.now c.take.new.self (sym c.is_empty.ensures ∙ c.if-is_empty.true) (sym c.is_empty-then-is_empty.ensures ∙ c.if-is_empty-2.true))
+    rw (c.from_parts.ensures, c.into_parts.ensures) (inv ∙ planned_rest c.loop-line.number c.loop-line.planning c.in-Some.line.now c.take.new.self (sym c.is_empty.ensures ∙ c.if-is_empty.true) (sym c.is_empty-then-is_empty.ensures ∙ c.if-is_empty-2.true))
 
 pub returns-then-is_empty-clause-refused : goal.returns-then-is_empty-clause-refused
 returns-then-is_empty-clause-refused c =
@@ -26,4 +26,14 @@ loop-line-preserved c =
 pub returns-clause-read : goal.returns-clause-read
 returns-clause-read c =
     let inv = rw c.in_default.ensures.0 at c.loop-line.invariant in
-    rw c.into_plan-2.ensures (inv ∙ planned_all c.loop-line.number c.loop-line.planning)
+    rw (c.from_parts-2.ensures, c.into_parts-2.ensures) (inv ∙ planned_all c.loop-line.number c.loop-line.planning)
+
+pub from_parts-requires : goal.from_parts-requires
+from_parts-requires c =
+    let inv = rw c.in-Some.ensures at c.loop-line.invariant in
+    rw c.into_parts.ensures (c.args.text.now, inv ∙ planned_rest c.loop-line.number c.loop-line.planning c.in-Some.line.now c.take.new.self (sym c.is_empty.ensures ∙ c.if-is_empty.true) (sym c.is_empty-then-is_empty.ensures ∙ c.if-is_empty-2.true))
+
+pub from_parts-requires-2 : goal.from_parts-requires-2
+from_parts-requires-2 c =
+    let inv = rw c.in_default.ensures.0 at c.loop-line.invariant in
+    rw c.into_parts-2.ensures (c.args.text.now, inv ∙ planned_all c.loop-line.number c.loop-line.planning)
