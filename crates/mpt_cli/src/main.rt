@@ -1,4 +1,4 @@
-//! The command line: decodes one message, descriptor or page from hexadecimal.
+//! The command line: decodes one message, descriptor or page from hexadecimal, or prints a schedule.
 #![tactic(auto)]
 
 mod answer;
