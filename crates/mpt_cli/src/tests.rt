@@ -89,7 +89,7 @@ fn outcome(
     let mut writes = Vec::new(alloc);
     writes.push(failing.1)?;
     let mut source = MemorySource::new(input.to_vec(alloc)?, piece, reads);
-    let mut sink = MemorySink::new(alloc, piece, 4096, writes).map_err(|_| "no memory")?;
+    let mut sink = MemorySink::new(alloc, piece, 65_536, writes).map_err(|_| "no memory")?;
     let status = run(alloc, &words, &mut source, &mut sink);
     Ok((status, sink.bytes().to_vec(alloc)?))
 }
