@@ -79,6 +79,46 @@ const PAGE: &[u8] = b"\x08\x00\x00\x0f\x0e\x00\x12\x00\x05\x00\x01\x00\x01\x00\x
 \x01\x00\x00\x01\x01\x00\x00\x00\x00\xc5\x00\x50\x00\x00\x00\x00\
 \x00\x00\x00\x00\x00\x00\x00\x00";
 
+// The reset of target 0x000a.
+const TARGET_RESET: &[u8] = b"\x0a\x00\x00\x01\x00\x03\x00\x00\x00\x00\x00\x00\x00\x00\x00\x00\
+\x00\x00\x00\x00\x00\x00\x00\x00\x00\x00\x00\x00\x00\x00\x00\x00\
+\x00\x00\x00\x00\x00\x00\x00\x00\x00\x00\x00\x00\x00\x00\x00\x00\
+\x00\x00\x00\x00";
+
+// The removal of device 0x000a.
+const REMOVE: &[u8] = b"\x0d\x00\x00\x1b\x0a\x00\x00\x00\x00\x00\x00\x00\x00\x00\x00\x00\
+\x00\x00\x00\x00\x00\x00\x00\x00\x00\x00\x00\x00\x00\x00\x00\x00\
+\x00\x00\x00\x00\x00\x00\x00\x00\x00\x00\x00\x00";
+
+// The acknowledgement of a topology change list with context 7.
+const ACK: &[u8] = b"\x00\x00\x00\x08\x00\x00\x00\x00\x00\x00\x00\x00\x1c\x00\x00\x00\
+\x07\x00\x00\x00";
+
+// Port Enable.
+const PORT_ENABLE: &[u8] = b"\x00\x00\x00\x06\x00\x00\x00\x00\x00\x00\x00\x00";
+
+// IOC Facts.
+const FACTS_ASK: &[u8] = b"\x00\x00\x00\x03\x00\x00\x00\x00\x00\x00\x00\x00";
+
+// Port Facts of port 0.
+const PORT_FACTS_ASK: &[u8] = b"\x00\x00\x00\x05\x00\x00\x00\x00\x00\x00\x00\x00";
+
+// The reply to an abort that stopped one task.
+const ABORTED: &[u8] = b"\x0a\x00\x07\x01\x00\x01\x00\x00\x00\x00\x00\x00\x00\x00\x00\x00\
+\x00\x00\x00\x00\x01\x00\x00\x00\x00\x00\x00\x00";
+
+// The facts of port 0, a SAS port.
+const PORT_FACTS: &[u8] = b"\x00\x00\x07\x05\x00\x00\x00\x00\x00\x00\x00\x00\x00\x00\x00\x00\
+\x00\x00\x00\x00\x00\x30\x00\x00\x00\x00\x00\x00";
+
+// The reply to the removal of device 0x000a.
+const REMOVED: &[u8] = b"\x0d\x00\x05\x1b\x0a\x00\x00\x00\x00\x00\x00\x00\x00\x00\x00\x00\
+\x00\x00\x00\x00";
+
+// The reply to Event Notification.
+const NOTIFIED: &[u8] = b"\x00\x00\x07\x07\x00\x00\x00\x00\x00\x00\x00\x00\x00\x00\x00\x00\
+\x00\x00\x00\x00\x00\x00\x00\x00\x00\x00\x00\x00";
+
 // The frame is these bytes, and zeros past them.
 fn shows(rt: &impl Abort, length: usize, frame: &[u8], bytes: &[u8]) {
     assert_eq!(rt; length, bytes.len());
@@ -166,6 +206,56 @@ fn ioc_frames(rt: HostRuntime) {
     out = [0; 128];
     let page = device_page(0x000a, 0x5000_c500_0000_0001, 2, 5);
     shows(&rt, encode_device_page0(&page, &mut out), &out, PAGE);
+}
+
+#[test]
+fn other_host_frames(rt: HostRuntime) {
+    let mut out = [0; 128];
+    let mut ask = HostAsk::Task {
+        handle: 0x000a,
+        task_type: 3,
+        task_mid: 0,
+    };
+    shows(&rt, host_frame(&ask, &mut out), &out, TARGET_RESET);
+    ask = HostAsk::Remove { handle: 0x000a };
+    shows(&rt, host_frame(&ask, &mut out), &out, REMOVE);
+    ask = HostAsk::Ack {
+        event: 0x001c,
+        context: 7,
+    };
+    shows(&rt, host_frame(&ask, &mut out), &out, ACK);
+    ask = HostAsk::PortEnable;
+    shows(&rt, host_frame(&ask, &mut out), &out, PORT_ENABLE);
+    ask = HostAsk::Facts;
+    shows(&rt, host_frame(&ask, &mut out), &out, FACTS_ASK);
+    ask = HostAsk::PortFacts;
+    shows(&rt, host_frame(&ask, &mut out), &out, PORT_FACTS_ASK);
+}
+
+#[test]
+fn other_ioc_frames(rt: HostRuntime) {
+    let mut out = [0; 128];
+    let mut reply = IocReply::Task {
+        handle: 0x000a,
+        task_type: 1,
+        status: 0x0000,
+        code: 0x00,
+        count: 1,
+    };
+    shows(&rt, ioc_frame(&reply, &mut out), &out, ABORTED);
+    reply = IocReply::PortFacts {
+        port: 0,
+        status: 0x0000,
+    };
+    shows(&rt, ioc_frame(&reply, &mut out), &out, PORT_FACTS);
+    reply = IocReply::Removed {
+        handle: 0x000a,
+        operation: 0x0d,
+        status: 0x0000,
+    };
+    shows(&rt, ioc_frame(&reply, &mut out), &out, REMOVED);
+    reply = IocReply::Notified;
+    shows(&rt, ioc_frame(&reply, &mut out), &out, NOTIFIED);
 }
 
 // A message read from its bytes fits, is written as the same bytes and is listed under its name.
