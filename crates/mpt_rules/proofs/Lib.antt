@@ -1,0 +1,29 @@
+pub mod HostUp
+pub mod HostExamples
+pub mod StrangeExamples
+-- Lemmas on what the lines hold, and computed examples.
+pub mod Counts
+pub mod PutsKeepLines
+pub mod BoundToTarget
+pub mod FabricCounts
+pub mod Lines
+pub mod FabricExamples
+pub mod IocExampleParts
+mod IocCommandExamples
+mod IocTaskExamples
+mod IocRequestExamples
+mod IocBindingExamples
+mod IocRegisterExamples
+pub mod WorldExampleParts
+mod WorldExamples
+mod CaseExamples
+mod JournalExamples
+mod RemovalExamples
+pub mod ReplyExamples
+pub mod EventExamples
+pub mod ResetExamples
+mod IocSendingExamples
+mod IocResetExamples
+pub mod StartExamples
+pub mod HostTurns
+mod WireExamples

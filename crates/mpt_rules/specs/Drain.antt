@@ -1,0 +1,95 @@
+-- Draining: rounds of choices until the world is quiet.
+use Rattle.std.specs.Prelude.{ℕ, zero, suc, ◌+◌, Bool, true, false, not, ◌&&◌, List, [], ◌∷◌, ◌++◌, Option, Some, None, option_map}
+use Rattle.std.specs.List.{list_all}
+use Rattle.mpt_trace.specs.declared.choice.Choice.{Choice}
+use Rattle.mpt_trace.specs.declared.choice.Choice.TheVariants as choice
+use Rattle.mpt_trace.specs.declared.entry.Entry.{Entry}
+use Rattle.mpt_trace.specs.Lines.{Try, Chooses, RunsOldest, round as tries_of}
+use Rattle.mpt_rules.specs.Host.{host_waits}
+use Rattle.mpt_rules.specs.Ioc.{ioc_quiet}
+use Rattle.mpt_rules.specs.IocPlaces.{is_empty}
+use Rattle.mpt_rules.specs.Fabric.{oldest, fabric_quiet}
+use Rattle.mpt_rules.specs.Outcome.{Outcome}
+use Rattle.mpt_rules.specs.World.{World, queues_of, nothing}
+use Rattle.mpt_rules.specs.Moves.{moves}
+use Rattle.mpt_rules.specs.Weight.{weight}
+
+-- ---- a round
+
+-- the choice that is tried; none where no task is queued
+abbrev pub choice_of : World → Try → Option Choice
+choice_of w (Chooses choice) = Some choice
+choice_of w RunsOldest = option_map choice.FabricRun (oldest w.fabric)
+
+-- a step that doesn't move makes no entry
+abbrev pub moves_if : World → Option (Outcome World) → Outcome World
+moves_if w None = nothing w
+moves_if w (Some outcome) = outcome
+
+-- a choice, if there is one
+abbrev pub tries_choice : World → Option Choice → Outcome World
+tries_choice w None = nothing w
+tries_choice w (Some choice) = moves_if w (moves w choice)
+
+-- one try
+abbrev pub tries : World → Try → Outcome World
+tries w try = tries_choice w (choice_of w try)
+
+-- entries, and an outcome behind them
+abbrev pub behind : List Entry → Outcome World → Outcome World
+behind entries outcome = record { part = outcome.part; entries = entries ++ outcome.entries }
+
+-- an outcome, and the tries that follow it
+unfoldable pub followed_by : Outcome World → List Try → Outcome World
+followed_by outcome [] = outcome
+followed_by outcome (try ∷ rest) = behind outcome.entries (followed_by (tries outcome.part try) rest)
+
+-- one round
+abbrev pub round : World → Outcome World
+round w = followed_by (nothing w) (tries_of (queues_of w))
+
+-- ---- rounds until the world is quiet
+
+-- nothing is on a lane
+abbrev pub lanes_empty : World → Bool
+lanes_empty w = is_empty w.down && list_all is_empty w.up && is_empty w.out && is_empty w.back
+
+-- no lane, outbox, queue or list of what waits holds anything, and the host waits for nothing
+abbrev pub world_quiet : World → Bool
+world_quiet w = lanes_empty w && is_empty w.host.out && not (host_waits w.host) && ioc_quiet w.ioc && fabric_quiet w.fabric
+
+-- a round, and what follows it
+abbrev pub goes_on : (World → Outcome World) → Outcome World → Outcome World
+goes_on next outcome = behind outcome.entries (next outcome.part)
+
+-- a round and what follows it, unless the world is quiet
+abbrev pub goes_on_unless : Bool → (World → Outcome World) → World → Outcome World
+goes_on_unless true next w = nothing w
+goes_on_unless false next w = goes_on next (round w)
+
+-- at most so many rounds, until the world is quiet, which is looked at before each round
+unfoldable pub drain_with : ℕ → World → Outcome World
+drain_with zero w = nothing w
+drain_with (suc fuel) w = goes_on_unless (world_quiet w) (drain_with fuel) w
+
+-- a round, and those that follow it
+abbrev pub counts_on : (World → ℕ) → Outcome World → ℕ
+counts_on next outcome = 1 + next outcome.part
+
+-- how many rounds there are, unless the world is quiet
+abbrev pub counts_unless : Bool → (World → ℕ) → World → ℕ
+counts_unless true next w = 0
+counts_unless false next w = counts_on next (round w)
+
+-- the number of these rounds
+unfoldable pub rounds_with : ℕ → World → ℕ
+rounds_with zero w = 0
+rounds_with (suc fuel) w = counts_unless (world_quiet w) (rounds_with fuel) w
+
+-- rounds until the world is quiet: they are at most as many as the world's weight
+abbrev pub drains : World → Outcome World
+drains w = drain_with (weight w) w
+
+-- how many rounds that takes
+abbrev pub drain_rounds : World → ℕ
+drain_rounds w = rounds_with (weight w) w

@@ -1,0 +1,240 @@
+-- The law: what holds of every trace, of every world that a list of cases leads to, and of every session.
+-- These are statements alone. Each is to be carried by the contract of a function with an empty body, in this form.
+use Rattle.std.specs.Prelude.{◌≡◌, ℕ, ◌==◌, ◌≤◌, ◌⊎◌, Bool, true, false, List, ◌∷◌, ◌++◌, All, length, count_by, Option, Some, None}
+use Rattle.mpi_doorbell.specs.DoorRegisters.{is_fault}
+use Rattle.mpt_trace.specs.declared.entry.Entry.{Entry}
+use Rattle.mpt_trace.specs.declared.entry.Entry.TheVariants as entry
+use Rattle.mpt_trace.specs.declared.host_state.HostState.TheVariants as state
+use Rattle.mpt_trace.specs.declared.item.Up.{Up}
+use Rattle.mpt_trace.specs.Lanes.{LanesInOrder}
+use Rattle.mpt_trace.specs.Identifiers.{IdentifiersInCycles, ClassesKept}
+use Rattle.mpt_trace.specs.LeastFree.{LeastAreAccepted}
+use Rattle.mpt_trace.specs.Frames.{FramesInCycles}
+use Rattle.mpt_trace.specs.Plugs.{PlugsAreServed}
+use Rattle.mpt_trace.specs.Removals.{UnbindsAreRemovals}
+use Rattle.mpt_trace.specs.Leaving.{RemovesWhatLeft}
+use Rattle.mpt_trace.specs.Pages.{PagesAreOfBindings, PostsGoToPages}
+use Rattle.mpt_trace.specs.Tasks.{TasksGoToBindings}
+use Rattle.mpt_trace.specs.FitsSchedule.{FitsSchedule}
+use Rattle.mpt_trace.specs.FitsTies.{IsTied}
+use Rattle.mpt_trace.specs.Lines.{Line, Asked, Stepped, Drained}
+use Rattle.mpt_trace.specs.ReadingSchedule.{IsInput}
+use Rattle.mpt_trace.specs.Marks.{RepliesOnTheirLanes, LanesAreMarked}
+use Rattle.mpt_trace.specs.Messages as messages
+use Rattle.mpt_trace.specs.DoorbellWords.{DoorbellTalks}
+use Rattle.mpt_trace.specs.Paths.{IsOnPaths}
+use Rattle.mpt_trace.specs.Replies.{RepliesTell}
+use Rattle.mpt_trace.specs.TerminationCounts.{AreCounted}
+use Rattle.mpt_trace.specs.Stops.{StopsAreTold}
+use Rattle.mpt_trace.specs.MachineState.{Machine, MachineDisk, Place, first_machine}
+use Rattle.mpt_trace.specs.Machine.{after_all}
+use Rattle.mpt_trace.specs.View.{ViewIsRun, view}
+use Rattle.mpt_rules.specs.Outcome.{Outcome}
+use Rattle.mpt_rules.specs.Replays.{replays}
+use Rattle.mpt_rules.specs.Settings.{IsCase, Setting, IsSetting, first_world}
+use Rattle.mpt_rules.specs.Host.{takes_up}
+use Rattle.mpt_rules.specs.World.{World, up_on}
+use Rattle.mpt_rules.specs.Cases.{Case, Told, Chosen, HostLooks, HostStops, FabricCalms, run, trace}
+use Rattle.mpt_rules.specs.Drain.{world_quiet, drains}
+use Rattle.mpt_rules.specs.PlaceCounts.{frame_count, smid_count}
+use Rattle.mpt_rules.specs.Sessions.{Session, IsSession, session_trace}
+
+-- ---- of every trace
+
+-- in every prefix, what was taken from a lane is a prefix of what was put on it
+abbrev pub LanesAreQueues : Setting → List Entry → Type 0
+LanesAreQueues s t = LanesInOrder t
+
+-- each identifier goes round: its post is put and taken, and then its reply, before it is posted again
+abbrev pub IdentifiersGoRound : Setting → List Entry → Type 0
+IdentifiersGoRound s t = IdentifiersInCycles t × ClassesKept t
+
+-- a submission is accepted under the least identifier that no open submission and no open abort has
+abbrev pub LeastIdentifiersAreTaken : Setting → List Entry → Type 0
+LeastIdentifiersAreTaken s t = LeastAreAccepted t
+
+-- each reply frame goes round: its return is put and taken, and then a reply in it
+abbrev pub FramesGoRound : Setting → List Entry → Type 0
+FramesGoRound s t = FramesInCycles t
+
+-- each plugged disk is bound to the least unbound handle, at once or in its turn
+abbrev pub HandlesAreServed : Setting → List Entry → Type 0
+HandlesAreServed s t = PlugsAreServed t
+
+-- a handle is unbound by a remove device alone, and that is asked only after the host was told that the disk left
+-- and a target reset that was asked since was answered
+abbrev pub HandlesAreRemoved : Setting → List Entry → Type 0
+HandlesAreRemoved s t = UnbindsAreRemovals t × ((h : ℕ) → RemovesWhatLeft h t)
+
+-- a device page has the address to which its handle is bound, and a submission goes to the one handle that has a
+-- page of its disk
+abbrev pub PagesHaveTheirAddress : Setting → List Entry → Type 0
+PagesHaveTheirAddress s t = PagesAreOfBindings t × PostsGoToPages t
+
+-- a task goes to the address to which the handle of its post is bound
+abbrev pub TasksHaveTheirAddress : Setting → List Entry → Type 0
+TasksHaveTheirAddress s t = TasksGoToBindings t
+
+-- each post and each reply is a message with the values that host and controller write
+abbrev pub MessagesStand : Setting → List Entry → Type 0
+MessagesStand s t = messages.MessagesStand s.queues t
+
+-- what passes the doorbell in a handshake is one message of the host and its reply, or where a reset cuts it off a
+-- beginning of these
+abbrev pub HandshakesHandOver : Setting → List Entry → Type 0
+HandshakesHandOver s t = DoorbellTalks s.queues t
+
+-- what names a command's identifier, from its accept to its answer, is on one of the five paths
+abbrev pub CommandsGoOnPaths : Setting → List Entry → Type 0
+CommandsGoOnPaths s t = (smid : ℕ) → IsOnPaths smid t
+
+-- the reply to a command tells the result that its disk gave
+abbrev pub RepliesTellResults : Setting → List Entry → Type 0
+RepliesTellResults s t = (smid : ℕ) → RepliesTell smid t
+
+-- the counts of aborts and target resets are those of what they stopped
+abbrev pub StopsAreCounted : Setting → List Entry → Type 0
+StopsAreCounted s t = ((smid : ℕ) → AreCounted smid t) × ((smid : ℕ) → StopsAreTold smid t)
+
+-- a reply is put on its queue's lane, and each reset's mark on each lane above up, where the host awaits it
+abbrev pub RepliesKeepTheirQueues : Setting → List Entry → Type 0
+RepliesKeepTheirQueues s t = RepliesOnTheirLanes s.queues t × LanesAreMarked s.queues t
+
+abbrev pub is_accept : ℕ → Entry → Bool
+is_accept n (entry.Accept number address smid) = number == n
+is_accept n _ = false
+
+abbrev pub is_answer : ℕ → Entry → Bool
+is_answer n (entry.Answer number outcome) = number == n
+is_answer n _ = false
+
+-- each accepted number was answered
+abbrev pub AllAreAnswered : List Entry → Type 0
+AllAreAnswered t = (n : ℕ) → count_by (is_accept n) t ≡ count_by (is_answer n) t
+
+-- no number is accepted twice or answered twice, and at each end of a reset none is unanswered
+pub record AnsweredAtMostOnce (s : Setting) (t : List Entry) : Type 0 where
+  pub accepted : (n : ℕ) → count_by (is_accept n) t ≤ 1
+  pub answered : (n : ℕ) → count_by (is_answer n) t ≤ 1
+  pub at_reset : (before after : List Entry) → t ≡ before ++ entry.ResetDone ∷ after → AllAreAnswered before
+
+-- what the host tells is what the replies say, each reset unbinds all handles, and indices, reply frames and the
+-- interrupt status go on in order
+abbrev pub EntriesAreTied : Setting → List Entry → Type 0
+EntriesAreTied s t = IsTied t
+
+-- the trace shows a run of the machine of disks: each accepted command runs at most once, at the disk it was
+-- submitted for, before its one answer, which is that disk's result or a failure with a stated cause
+abbrev pub DisksRun : Setting → List Entry → Type 0
+DisksRun s t = ViewIsRun s.disks t
+
+-- all of this
+pub record IsLawful (s : Setting) (t : List Entry) : Type 0 where
+  pub lanes : LanesAreQueues s t
+  pub identifiers : IdentifiersGoRound s t
+  pub least : LeastIdentifiersAreTaken s t
+  pub frames : FramesGoRound s t
+  pub served : HandlesAreServed s t
+  pub removed : HandlesAreRemoved s t
+  pub pages : PagesHaveTheirAddress s t
+  pub tasks : TasksHaveTheirAddress s t
+  pub messages : MessagesStand s t
+  pub handshakes : HandshakesHandOver s t
+  pub paths : CommandsGoOnPaths s t
+  pub results : RepliesTellResults s t
+  pub counts : StopsAreCounted s t
+  pub queues : RepliesKeepTheirQueues s t
+  pub once : AnsweredAtMostOnce s t
+  pub tied : EntriesAreTied s t
+  pub disks : DisksRun s t
+
+-- ---- of every world
+
+-- each identifier is in one place; it is in none only where a reset that is going on dropped its item
+abbrev pub IdentifiersHaveOnePlace : World → Type 0
+IdentifiersHaveOnePlace w =
+    (smid : ℕ) → 1 ≤ smid → smid ≤ 280 → (smid_count w smid ≡ 1) ⊎ ((smid_count w smid ≡ 0) × (w.host.mode ≡ state.Resetting))
+
+-- and so is each reply frame
+abbrev pub FramesHaveOnePlace : World → Type 0
+FramesHaveOnePlace w =
+    (frame : ℕ) → frame ≤ 63 → (frame_count w frame ≡ 1) ⊎ ((frame_count w frame ≡ 0) × (w.host.mode ≡ state.Resetting))
+
+-- nothing that is on a lane up is strange to the host
+abbrev pub NothingIsStrange : World → Type 0
+NothingIsStrange w =
+    (queue : ℕ) (item : Up) (rest : List Up) → up_on w queue ≡ item ∷ rest → (takes_up w.host queue item).answer ≡ None
+
+-- the controller isn't in FAULT
+abbrev pub NothingFaults : World → Type 0
+NothingFaults w = is_fault w.ioc.door.state ≡ false
+
+-- the controller's queues are no longer than there are identifiers of their kinds
+abbrev pub QueuesAreShort : World → Type 0
+QueuesAreShort w = (length w.ioc.high ≤ 8) × (length w.ioc.normal ≤ 272)
+
+-- ---- of the end of every list of cases
+
+-- a case that a schedule can make: it has no line for what ends a session
+abbrev pub IsOfSchedule : Case → Type 0
+IsOfSchedule (Told input) = Unit {0}
+IsOfSchedule (Chosen choice) = Unit {0}
+IsOfSchedule HostLooks = ⊥
+IsOfSchedule HostStops = ⊥
+IsOfSchedule FabricCalms = ⊥
+
+-- of a world that a schedule leads to a drain ends quiet, in at most as many rounds as the world weighs
+abbrev pub DrainsEndQuiet : Setting → List Case → Type 0
+DrainsEndQuiet s cases = All IsOfSchedule cases → world_quiet (drains (run (first_world s) cases)).part ≡ true
+
+-- where all is quiet, each accepted number was answered
+abbrev pub QuietIsAnswered : Setting → List Case → Type 0
+QuietIsAnswered s cases = world_quiet (run (first_world s) cases) ≡ true → AllAreAnswered (trace (first_world s) cases)
+
+-- the plug that ought to be ready: that of a plugged disk
+abbrev pub plug_at : Option Place → ℕ → Option ℕ
+plug_at None plugs = None
+plug_at (Some place) plugs = Some plugs
+
+abbrev pub plug_of : Option MachineDisk → Option ℕ
+plug_of None = None
+plug_of (Some disk) = plug_at disk.at disk.plugs
+
+-- the machine of disks after a trace
+abbrev pub machine_after : Setting → List Entry → Machine
+machine_after s t = after_all (first_machine s.disks) (view t)
+
+-- where all is quiet and the host is up, each plugged disk is ready with its last plug, and no other is
+abbrev pub QuietIsReady : Setting → List Case → Type 0
+QuietIsReady s cases =
+    world_quiet (run (first_world s) cases) ≡ true → (run (first_world s) cases).host.mode ≡ state.Up
+    → (address : ℕ) → (machine_after s (trace (first_world s) cases)).ready address ≡ plug_of ((machine_after s (trace (first_world s) cases)).disks address)
+
+-- ---- of every schedule
+
+-- a line whose input has numbers that an input can have
+abbrev pub IsLine : Line → Type 0
+IsLine (Asked input) = IsInput input
+IsLine (Stepped choice count) = Unit {0}
+IsLine Drained = Unit {0}
+
+-- what a schedule leaves is what a list of cases leaves, so that the law holds of it
+pub record IsOfCases (s : Setting) (o : Outcome World) : Type 0 where
+  pub cases : List Case
+  pub allowed : All IsCase cases
+  pub traced : o.entries ≡ trace (first_world s) cases
+  pub reached : o.part ≡ run (first_world s) cases
+
+abbrev pub ReplaysAreOfCases : Type 0
+ReplaysAreOfCases = (s : Setting) (lines : List Line) → IsSetting s → All IsLine lines → IsOfCases s (replays (first_world s) lines)
+
+-- the trace of a schedule is the list of its lines' blocks
+abbrev pub ReplaysFit : Type 0
+ReplaysFit = (s : Setting) (lines : List Line) → IsSetting s → All IsLine lines → FitsSchedule s.queues lines (replays (first_world s) lines).entries
+
+-- ---- of every session
+
+-- where the lanes between the parties are queues, the merge of their journals is as lawful as a trace
+abbrev pub SessionsAreLawful : Type 0
+SessionsAreLawful =
+    (s : Setting) (x : Session) → IsSetting s → IsSession s x → LanesInOrder (session_trace s x) → IsLawful s (session_trace s x)
