@@ -1,6 +1,6 @@
 -- The law: what holds of every trace, of every world that a list of cases leads to, and of every session.
 -- These are statements alone. Each is to be carried by the contract of a function with an empty body, in this form.
-use Rattle.std.specs.Prelude.{◌≡◌, ℕ, ◌==◌, ◌≤◌, ◌⊎◌, Bool, true, false, List, ◌∷◌, ◌++◌, All, length, count_by, Option, Some, None}
+use Rattle.std.specs.Prelude.{◌≡◌, ℕ, ◌==◌, ◌≤◌, ◌⊎◌, Bool, true, false, List, ◌∷◌, ◌++◌, All, length, count_by, None}
 use Rattle.mpi_doorbell.specs.DoorRegisters.{is_fault}
 use Rattle.mpt_trace.specs.declared.entry.Entry.{Entry}
 use Rattle.mpt_trace.specs.declared.entry.Entry.TheVariants as entry
@@ -26,9 +26,8 @@ use Rattle.mpt_trace.specs.Paths.{IsOnPaths}
 use Rattle.mpt_trace.specs.Replies.{RepliesTell}
 use Rattle.mpt_trace.specs.TerminationCounts.{AreCounted}
 use Rattle.mpt_trace.specs.Stops.{StopsAreTold}
-use Rattle.mpt_trace.specs.MachineState.{Machine, MachineDisk, Place, first_machine}
-use Rattle.mpt_trace.specs.Machine.{after_all}
-use Rattle.mpt_trace.specs.View.{ViewIsRun, view}
+use Rattle.mpt_trace.specs.ReadyDisks.{ReadyArePlugged}
+use Rattle.mpt_trace.specs.View.{ViewIsRun, machine_after}
 use Rattle.mpt_rules.specs.Outcome.{Outcome}
 use Rattle.mpt_rules.specs.Replays.{replays}
 use Rattle.mpt_rules.specs.Settings.{IsCase, Setting, IsSetting, first_world}
@@ -37,7 +36,7 @@ use Rattle.mpt_rules.specs.World.{World, up_on}
 use Rattle.mpt_rules.specs.Cases.{Case, Told, Chosen, HostLooks, HostStops, FabricCalms, run, trace}
 use Rattle.mpt_rules.specs.Drain.{world_quiet, drains}
 use Rattle.mpt_rules.specs.PlaceCounts.{frame_count, smid_count}
-use Rattle.mpt_rules.specs.Sessions.{Session, IsSession, session_trace}
+use Rattle.mpt_rules.specs.Sessions.{EndsQuiet, IsSession, Session, last_host, session_trace}
 
 -- ---- of every trace
 
@@ -191,24 +190,11 @@ DrainsEndQuiet s cases = All IsOfSchedule cases → world_quiet (drains (run (fi
 abbrev pub QuietIsAnswered : Setting → List Case → Type 0
 QuietIsAnswered s cases = world_quiet (run (first_world s) cases) ≡ true → AllAreAnswered (trace (first_world s) cases)
 
--- the plug that ought to be ready: that of a plugged disk
-abbrev pub plug_at : Option Place → ℕ → Option ℕ
-plug_at None plugs = None
-plug_at (Some place) plugs = Some plugs
-
-abbrev pub plug_of : Option MachineDisk → Option ℕ
-plug_of None = None
-plug_of (Some disk) = plug_at disk.at disk.plugs
-
--- the machine of disks after a trace
-abbrev pub machine_after : Setting → List Entry → Machine
-machine_after s t = after_all (first_machine s.disks) (view t)
-
 -- where all is quiet and the host is up, each plugged disk is ready with its last plug, and no other is
 abbrev pub QuietIsReady : Setting → List Case → Type 0
 QuietIsReady s cases =
     world_quiet (run (first_world s) cases) ≡ true → (run (first_world s) cases).host.mode ≡ state.Up
-    → (address : ℕ) → (machine_after s (trace (first_world s) cases)).ready address ≡ plug_of ((machine_after s (trace (first_world s) cases)).disks address)
+    → ReadyArePlugged (machine_after s.disks (trace (first_world s) cases))
 
 -- ---- of every schedule
 
@@ -238,3 +224,14 @@ ReplaysFit = (s : Setting) (lines : List Line) → IsSetting s → All IsLine li
 abbrev pub SessionsAreLawful : Type 0
 SessionsAreLawful =
     (s : Setting) (x : Session) → IsSetting s → IsSession s x → LanesInOrder (session_trace s x) → IsLawful s (session_trace s x)
+
+-- what is so at the end of a session: each accepted number was answered, and where the host is up each plugged disk is
+-- ready with its last plug, and no other is
+pub record IsAnswered (s : Setting) (x : Session) : Type 0 where
+  pub answered : AllAreAnswered (session_trace s x)
+  pub ready : (last_host s x).mode ≡ state.Up → ReadyArePlugged (machine_after s.disks (session_trace s x))
+
+-- it is so where the lanes are queues and the session ends quiet
+abbrev pub QuietSessionsAreAnswered : Type 0
+QuietSessionsAreAnswered =
+    (s : Setting) (x : Session) → IsSetting s → IsSession s x → LanesInOrder (session_trace s x) → EndsQuiet s x → IsAnswered s x

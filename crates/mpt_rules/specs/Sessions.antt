@@ -1,12 +1,17 @@
 -- A session: the cases of each party with their stamps, and the trace that their journals make.
-use Rattle.std.specs.Prelude.{ℕ, ◌+◌, ◌<◌, List, [], ◌∷◌, All, length}
+use Rattle.std.specs.Prelude.{◌≡◌, ℕ, ◌+◌, ◌<◌, true, false, List, [], ◌∷◌, All, filter_map, length}
 use Rattle.mpt_trace.specs.declared.entry.Entry.{Entry}
+use Rattle.mpt_trace.specs.declared.lane.LaneName.{LaneName}
 use Rattle.mpt_trace.specs.declared.parties.Party.TheVariants as party
 use Rattle.mpt_trace.specs.ReadingSchedule.{IsInput}
-use Rattle.mpt_rules.specs.HostParts.{new_host}
-use Rattle.mpt_rules.specs.IocParts.{new_ioc}
-use Rattle.mpt_rules.specs.FabricParts.{new_fabric}
-use Rattle.mpt_rules.specs.OpenCases.{HostCase, IocCase, FabricCase, SubmitterCase}
+use Rattle.mpt_trace.specs.Lanes.{put_on, taken_from}
+use Rattle.mpt_rules.specs.HostParts.{Host, new_host}
+use Rattle.mpt_rules.specs.IocParts.{Ioc, new_ioc}
+use Rattle.mpt_rules.specs.FabricParts.{Fabric, new_fabric}
+use Rattle.mpt_rules.specs.Host.{host_waits}
+use Rattle.mpt_rules.specs.Ioc.{ioc_quiet}
+use Rattle.mpt_rules.specs.Fabric.{fabric_quiet}
+use Rattle.mpt_rules.specs.OpenCases.{HostCase, IocCase, FabricCase, SubmitterCase, host_does, ioc_does, fabric_does}
 use Rattle.mpt_rules.specs.Journals.{At, Rises, Row, fabric_journal, host_journal, ioc_journal, merge, submitter_journal}
 use Rattle.mpt_rules.specs.Settings.{Setting}
 
@@ -58,3 +63,36 @@ journals s x =
 -- the trace: all entries by rising stamp and party
 abbrev pub session_trace : Setting → Session → List Entry
 session_trace s x = merge (journals s x)
+
+-- ---- the end of a session
+
+-- a party after its cases
+abbrev pub host_after : Host → List (At HostCase) → Host
+host_after host [] = host
+host_after host (c ∷ cs) = host_after (host_does host c.value).part cs
+
+abbrev pub ioc_after : Ioc → List (At IocCase) → Ioc
+ioc_after ioc [] = ioc
+ioc_after ioc (c ∷ cs) = ioc_after (ioc_does ioc c.value).part cs
+
+abbrev pub fabric_after : Fabric → List (At FabricCase) → Fabric
+fabric_after fabric [] = fabric
+fabric_after fabric (c ∷ cs) = fabric_after (fabric_does fabric c.value).part cs
+
+-- the parties as a session leaves them
+abbrev pub last_host : Setting → Session → Host
+last_host s x = host_after (new_host s.queues) x.host
+
+abbrev pub last_ioc : Setting → Session → Ioc
+last_ioc s x = ioc_after (new_ioc s.phys s.queues) x.ioc
+
+abbrev pub last_fabric : Setting → Session → Fabric
+last_fabric s x = fabric_after (new_fabric s.disks s.phys) x.fabric
+
+-- all that was put on a lane was taken, no party has anything left to do, and the host waits for nothing
+pub record EndsQuiet (s : Setting) (x : Session) : Type 0 where
+  pub taken : (lane : LaneName) → filter_map (taken_from lane) (session_trace s x) ≡ filter_map (put_on lane) (session_trace s x)
+  pub host : (last_host s x).out ≡ []
+  pub waits : host_waits (last_host s x) ≡ false
+  pub ioc : ioc_quiet (last_ioc s x) ≡ true
+  pub fabric : fabric_quiet (last_fabric s x) ≡ true
