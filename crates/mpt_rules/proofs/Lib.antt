@@ -19,6 +19,22 @@ mod WorldExamples
 mod CaseExamples
 mod JournalExamples
 mod RemovalExamples
+pub mod SchedulePieces
+pub mod HandleRemoved
+pub mod HandleGivenAgain
+mod ReusedHandle
+pub mod PluggedAgain
+mod OldReset
+pub mod StoppedWrite
+mod ParkedIdentifier
+pub mod WritesAtTheDisk
+pub mod ResetInMidFlight
+pub mod HandshakesAfterReset
+mod StartAfterReset
+pub mod AbortBeforeCommand
+mod AbortOnTwoQueues
+pub mod CommandsOnTwoQueues
+pub mod ResetOnTwoQueues
 pub mod ReplyExamples
 pub mod EventExamples
 pub mod ResetExamples

@@ -22,7 +22,7 @@ use Rattle.mpt_trace.specs.declared.entry.Entry.{Entry}
 use Rattle.mpt_trace.specs.Passes.{Passes, state_after}
 use Rattle.mpt_trace.specs.Fields.{changes_from}
 use Rattle.mpt_trace.specs.MachineState.{put_at}
-use Rattle.mpt_trace.specs.Bindings.{Plug, least_from}
+use Rattle.mpt_trace.specs.Bindings.{least_from}
 use Rattle.mpt_trace.specs.Plugs.{ServedAsks, Serving, nothing_bound, served_next}
 use Rattle.mpt_trace.specs.Removals.{UnbindAsks, no_removals, removals_next}
 use Rattle.mpt_trace.specs.Leaving.{Added, Answered, leaving_next}
