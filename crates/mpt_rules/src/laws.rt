@@ -13,8 +13,9 @@ ghost use Rattle.mpt_trace.specs.Machine.{IsRun, Step};
 ghost use Rattle.mpt_trace.specs.PathRules.{PathsKept, PathsPass};
 ghost use Rattle.mpt_trace.specs.View.{SeenAsks, ViewIsRun, first_seen, seen_next};
 
-/// Every run of the machine of disks gives each request one life: it is accepted once, runs at most once, at the disk
-/// that it was accepted for, before its one answer, and an answer Done comes only after it ran.
+/// Every run of the machine of disks gives each request one life at most: it is accepted, runs at most once, at the disk
+/// that it was accepted for, and has at most one answer, the last of all. Done answers one that ran, Gone and Terminated
+/// one that didn't.
 pub fn requests_have_one_life()
     ensures { (disks : List DiskSpec) (steps : List Step) → IsRun disks steps → HaveOneLife steps }
 {}
