@@ -30,7 +30,7 @@ use Rattle.mpt_trace.specs.ReadyDisks.{ReadyArePlugged}
 use Rattle.mpt_trace.specs.View.{ViewIsRun, machine_after}
 use Rattle.mpt_rules.specs.Outcome.{Outcome}
 use Rattle.mpt_rules.specs.Replays.{replays}
-use Rattle.mpt_rules.specs.Settings.{IsCase, Setting, IsSetting, first_world}
+use Rattle.mpt_rules.specs.Settings.{IsCase, NamesWhatIsThere, Setting, IsSetting, first_world}
 use Rattle.mpt_rules.specs.Host.{takes_up}
 use Rattle.mpt_rules.specs.World.{World, up_on}
 use Rattle.mpt_rules.specs.Cases.{Case, Told, Chosen, HostLooks, HostStops, FabricCalms, run, trace}
@@ -99,6 +99,7 @@ StopsAreCounted s t = ((smid : ℕ) → AreCounted smid t) × ((smid : ℕ) → 
 abbrev pub RepliesKeepTheirQueues : Setting → List Entry → Type 0
 RepliesKeepTheirQueues s t = RepliesOnTheirLanes s.queues t × LanesAreMarked s.queues t
 
+-- the number's accept, and its answer
 abbrev pub is_accept : ℕ → Entry → Bool
 is_accept n (entry.Accept number address smid) = number == n
 is_accept n _ = false
@@ -198,11 +199,12 @@ QuietIsReady s cases =
 
 -- ---- of every schedule
 
--- a line whose input has numbers that an input can have
-abbrev pub IsLine : Line → Type 0
-IsLine (Asked input) = IsInput input
-IsLine (Stepped choice count) = Unit {0}
-IsLine Drained = Unit {0}
+-- a line of a schedule with this head: its input has numbers that an input can have, and names disks and phys that
+-- the head declares
+abbrev pub IsLine : Setting → Line → Type 0
+IsLine s (Asked input) = IsInput input × NamesWhatIsThere s input
+IsLine s (Stepped choice count) = Unit {0}
+IsLine s Drained = Unit {0}
 
 -- what a schedule leaves is what a list of cases leaves, so that the law holds of it
 pub record IsOfCases (s : Setting) (o : Outcome World) : Type 0 where
@@ -211,12 +213,13 @@ pub record IsOfCases (s : Setting) (o : Outcome World) : Type 0 where
   pub traced : o.entries ≡ trace (first_world s) cases
   pub reached : o.part ≡ run (first_world s) cases
 
+-- it is so of every schedule
 abbrev pub ReplaysAreOfCases : Type 0
-ReplaysAreOfCases = (s : Setting) (lines : List Line) → IsSetting s → All IsLine lines → IsOfCases s (replays (first_world s) lines)
+ReplaysAreOfCases = (s : Setting) (lines : List Line) → IsSetting s → All (IsLine s) lines → IsOfCases s (replays (first_world s) lines)
 
 -- the trace of a schedule is the list of its lines' blocks
 abbrev pub ReplaysFit : Type 0
-ReplaysFit = (s : Setting) (lines : List Line) → IsSetting s → All IsLine lines → FitsSchedule s.queues lines (replays (first_world s) lines).entries
+ReplaysFit = (s : Setting) (lines : List Line) → IsSetting s → All (IsLine s) lines → FitsSchedule s.queues lines (replays (first_world s) lines).entries
 
 -- ---- of every session
 

@@ -1,7 +1,10 @@
 -- What the law speaks of: the traces and the worlds of every list of cases, from a first world of any size within the limits.
-use Rattle.std.specs.Prelude.{◌≢◌, ℕ, ◌≤◌, ◌<◌, ◌^◌, List, All, AllPairs, length}
+use Rattle.std.specs.Prelude.{◌≢◌, ℕ, ◌≤◌, ◌<◌, ◌^◌, ◌==◌, IsTrue, List, All, AllPairs, length, slice_index}
+use Rattle.std.specs.List.{list_any}
 use Rattle.mpt_trace.specs.declared.disk_spec.DiskSpec.{DiskSpec}
 use Rattle.mpt_trace.specs.declared.entry.Entry.{Entry}
+use Rattle.mpt_trace.specs.declared.input.Input.{Input}
+use Rattle.mpt_trace.specs.declared.input.Input.TheVariants as input
 use Rattle.mpt_trace.specs.ReadingSchedule.{IsInput}
 use Rattle.mpt_rules.specs.World.{World, fresh}
 use Rattle.mpt_rules.specs.Cases.{Case, Told, Chosen, HostLooks, HostStops, FabricCalms, run, trace}
@@ -33,6 +36,16 @@ IsCase (Chosen choice) = Unit {0}
 IsCase HostLooks = Unit {0}
 IsCase HostStops = Unit {0}
 IsCase FabricCalms = Unit {0}
+
+-- the setting has a disk of the address
+abbrev pub HasDisk : Setting → ℕ → Type 0
+HasDisk s address = IsTrue (list_any (λ (d : DiskSpec). d.address == address) s.disks)
+
+-- an input names only a disk and a phy that the setting has, where it is to plug or unplug one
+abbrev pub NamesWhatIsThere : Setting → Input → Type 0
+NamesWhatIsThere s (input.Plug address expander phy) = HasDisk s address × (phy < slice_index s.phys expander)
+NamesWhatIsThere s (input.Unplug address) = HasDisk s address
+NamesWhatIsThere s _ = Unit {0}
 
 -- the first world of a setting
 abbrev pub first_world : Setting → World
