@@ -2,6 +2,7 @@ pub mod HostUp
 pub mod HostExamples
 pub mod StrangeExamples
 -- Lemmas on what the lines hold, and computed examples.
+pub mod HostCalls
 pub mod Counts
 pub mod PutsKeepLines
 pub mod BoundToTarget

@@ -58,33 +58,18 @@ lanes_empty w = is_empty w.down && list_all is_empty w.up && is_empty w.out && i
 abbrev pub world_quiet : World → Bool
 world_quiet w = lanes_empty w && is_empty w.host.out && not (host_waits w.host) && ioc_quiet w.ioc && fabric_quiet w.fabric
 
--- a round, and what follows it
-abbrev pub goes_on : (World → Outcome World) → Outcome World → Outcome World
-goes_on next outcome = behind outcome.entries (next outcome.part)
-
--- a round and what follows it, unless the world is quiet
-abbrev pub goes_on_unless : Bool → (World → Outcome World) → World → Outcome World
-goes_on_unless true next w = nothing w
-goes_on_unless false next w = goes_on next (round w)
-
 -- at most so many rounds, until the world is quiet, which is looked at before each round
 unfoldable pub drain_with : ℕ → World → Outcome World
 drain_with zero w = nothing w
-drain_with (suc fuel) w = goes_on_unless (world_quiet w) (drain_with fuel) w
-
--- a round, and those that follow it
-abbrev pub counts_on : (World → ℕ) → Outcome World → ℕ
-counts_on next outcome = 1 + next outcome.part
-
--- how many rounds there are, unless the world is quiet
-abbrev pub counts_unless : Bool → (World → ℕ) → World → ℕ
-counts_unless true next w = 0
-counts_unless false next w = counts_on next (round w)
+drain_with (suc fuel) w = elim (world_quiet w) [
+    true ↦ nothing w
+  | false ↦ (let first : Outcome World = round w in behind first.entries (drain_with fuel first.part))
+  ]
 
 -- the number of these rounds
 unfoldable pub rounds_with : ℕ → World → ℕ
 rounds_with zero w = 0
-rounds_with (suc fuel) w = counts_unless (world_quiet w) (rounds_with fuel) w
+rounds_with (suc fuel) w = elim (world_quiet w) [ true ↦ 0 | false ↦ 1 + rounds_with fuel (round w).part ]
 
 -- rounds until the world is quiet: they are at most as many as the world's weight
 abbrev pub drains : World → Outcome World

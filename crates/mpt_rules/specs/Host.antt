@@ -11,7 +11,7 @@ use Rattle.mpt_rules.specs.Outcome.{Called, Outcome}
 use Rattle.mpt_rules.specs.HostParts.{Host}
 use Rattle.mpt_rules.specs.HostDoorbell.{is_resetting}
 use Rattle.mpt_rules.specs.HostRemoval.{quietly}
-use Rattle.mpt_rules.specs.HostReplies.{hears_reply}
+use Rattle.mpt_rules.specs.HostReplies.{heard_of, hears_reply}
 use Rattle.mpt_rules.specs.HostResets.{has_all_marks, hears_mark}
 use Rattle.mpt_rules.specs.HostValues.{hears_value}
 pub use Rattle.mpt_rules.specs.HostInputs.{starts, submits, aborts, resets_target, diag_resets, unit_resets, looks, stops}
@@ -23,7 +23,7 @@ pub use Rattle.mpt_rules.specs.HostStrange.{why_strange}
 -- an item that isn't strange
 abbrev pub hears_up : Host → ℕ → Up → Outcome Host
 hears_up host queue (up.Value value) = hears_value host value
-hears_up host queue (up.Reply descriptor frame page sense) = hears_reply host queue descriptor frame page sense
+hears_up host queue (up.Reply descriptor frame page sense) = hears_reply host queue (heard_of descriptor frame page sense)
 hears_up host queue (up.Mark generation) = hears_mark host queue
 hears_up host queue up.Calm = quietly host
 

@@ -1,9 +1,10 @@
 -- What is asked of the host from outside, and in which order it refuses.
-use Rattle.std.specs.Prelude.{ℕ, Bool, true, false, List, [], ◌∷◌, ◌++◌, Option, Some, None, Result, Ok, Err}
+use Rattle.std.specs.Prelude.{ℕ, Bool, true, false, not, List, [], ◌∷◌, ◌++◌, is_some, is_none, unwrap_or, if◌then◌else◌, Option, Some, None, Result, Ok, Err}
 use Rattle.std.specs.FinMap as map
 use Rattle.std.specs.FinSet as set
 use Rattle.scsi_disk.specs.declared.command.Command.{Command}
 use Rattle.scsi_disk.specs.Command.{fits}
+use Rattle.smid_pool.specs.declared.class.Class.{Class}
 use Rattle.smid_pool.specs.declared.class.Class.TheVariants.{High, ScsiIo}
 use Rattle.smid_pool.specs.Pool.{least_free}
 use Rattle.removal.specs.Handles.{ready_handle}
@@ -25,13 +26,18 @@ use Rattle.mpt_rules.specs.HostPosts.{posts_command, posts_task}
 use Rattle.mpt_rules.specs.HostResets.{asks_reset}
 use Rattle.mpt_rules.specs.HostValues.{looks_to_start}
 
--- a call that gives an identifier, or is refused and changes nothing
+-- a call that gives an identifier
 abbrev pub given : Host → List Entry → ℕ → Called Host (Result ℕ Refusal)
 given host told smid = record { part = host; told = told; answer = Ok smid }
 
--- it is refused
+-- a call that is refused for a cause changes nothing
 abbrev pub refused : Host → Refusal → Called Host (Result ℕ Refusal)
 refused host cause = record { part = host; told = []; answer = Err cause }
+
+-- what a call that is granted does, unless there is a cause to refuse it
+abbrev pub granted_unless : Option Refusal → Host → Called Host (Result ℕ Refusal) → Called Host (Result ℕ Refusal)
+granted_unless (Some cause) host granted = refused host cause
+granted_unless None host granted = granted
 
 -- a call that begins something, or is refused and changes nothing
 abbrev pub begun : Host → Called Host (Option Refusal)
@@ -48,58 +54,82 @@ is_up state.Starting = false
 is_up state.Up = true
 is_up state.Resetting = false
 
+-- ---- what a granted call names: a call that finds none of it is refused
+
+-- the handle of the ready disk of an address
+abbrev pub ready_handle_at : Host → ℕ → ℕ
+ready_handle_at host address = unwrap_or (ready_handle host.phases address) 0
+
+-- the least free identifier of a class
+abbrev pub next_smid : Host → Class → ℕ
+next_smid host class = unwrap_or (least_free class host.pool) 0
+
+-- the open submission of a number
+abbrev pub cmd_of : Host → ℕ → Cmd
+cmd_of host n = unwrap_or (map.get host.cmds n) (record { smid = 0; handle = 0 })
+
 -- ---- submissions
+
+-- the first cause that holds
+abbrev pub host_cause_of_submit : Host → ℕ → ℕ → Command → Option Refusal
+host_cause_of_submit host n address command =
+    if set.contains host.accepted n then Some refusal.NumberUsed
+    else if not (is_up host.mode) then Some refusal.NotOperational
+    else if is_none (ready_handle host.phases address) then Some refusal.NoDevice
+    else if not (fits command) then Some refusal.BadLength
+    else if is_none (least_free ScsiIo host.pool) then Some refusal.NoIdentifier
+    else None
 
 -- the command goes out under the identifier to the handle, and its number is used for ever
 abbrev pub accepts : Host → ℕ → ℕ → Command → ℕ → ℕ → Host
 accepts host n address command handle smid =
     posts_command (record host { accepted = set.insert host.accepted n; cmds = map.insert host.cmds n (record { smid = smid; handle = handle }) }) smid n handle command
 
--- whether the number was used, whether the host is up, the disk's handle, whether the command fits, and the identifier
-abbrev pub submits_if : Host → ℕ → ℕ → Command → Bool → Bool → Option ℕ → Bool → Option ℕ → Called Host (Result ℕ Refusal)
-submits_if host n address command true _ _ _ _ = refused host refusal.NumberUsed
-submits_if host n address command false false _ _ _ = refused host refusal.NotOperational
-submits_if host n address command false true None _ _ = refused host refusal.NoDevice
-submits_if host n address command false true (Some handle) false _ = refused host refusal.BadLength
-submits_if host n address command false true (Some handle) true None = refused host refusal.NoIdentifier
-submits_if host n address command false true (Some handle) true (Some smid) =
-    given (accepts host n address command handle smid) (entry.Accept n address smid ∷ []) smid
-
 -- a command is submitted for the disk of an address
 abbrev pub submits : Host → ℕ → ℕ → Command → Called Host (Result ℕ Refusal)
 submits host n address command =
-    submits_if host n address command (set.contains host.accepted n) (is_up host.mode) (ready_handle host.phases address) (fits command) (least_free ScsiIo host.pool)
+    let handle : ℕ = ready_handle_at host address in
+    let smid : ℕ = next_smid host ScsiIo in
+    granted_unless (host_cause_of_submit host n address command) host
+    (given (accepts host n address command handle smid) (entry.Accept n address smid ∷ []) smid)
 
 -- ---- aborts
+
+-- the first cause that holds
+abbrev pub host_cause_of_abort : Host → ℕ → Option Refusal
+host_cause_of_abort host n =
+    if not (is_up host.mode) then Some refusal.NotOperational
+    else if is_none (map.get host.cmds n) then Some refusal.NotOpen
+    else if is_some (map.get host.aborts n) then Some refusal.AbortOpen
+    else if is_none (least_free High host.pool) then Some refusal.NoIdentifier
+    else None
 
 -- the abort names the handle and the identifier of the command's post
 abbrev pub asks_abort : Host → ℕ → Cmd → ℕ → Host
 asks_abort host n cmd smid = posts_task (record host { aborts = map.insert host.aborts n smid }) smid (request.Abort n cmd.smid) cmd.handle abort_task cmd.smid
 
--- whether the host is up, the open submission, the open abort that names it, and the identifier
-abbrev pub aborts_if : Host → ℕ → Bool → Option Cmd → Option ℕ → Option ℕ → Called Host (Result ℕ Refusal)
-aborts_if host n false _ _ _ = refused host refusal.NotOperational
-aborts_if host n true None _ _ = refused host refusal.NotOpen
-aborts_if host n true (Some cmd) (Some abort) _ = refused host refusal.AbortOpen
-aborts_if host n true (Some cmd) None None = refused host refusal.NoIdentifier
-aborts_if host n true (Some cmd) None (Some smid) = given (asks_abort host n cmd smid) [] smid
-
 -- a submission is to be aborted
 abbrev pub aborts : Host → ℕ → Called Host (Result ℕ Refusal)
-aborts host n = aborts_if host n (is_up host.mode) (map.get host.cmds n) (map.get host.aborts n) (least_free High host.pool)
+aborts host n =
+    let smid : ℕ = next_smid host High in
+    granted_unless (host_cause_of_abort host n) host (given (asks_abort host n (cmd_of host n) smid) [] smid)
 
 -- ---- target resets
 
--- whether the host is up, the disk's handle, and the identifier
-abbrev pub resets_target_if : Host → ℕ → Bool → Option ℕ → Option ℕ → Called Host (Result ℕ Refusal)
-resets_target_if host address false _ _ = refused host refusal.NotOperational
-resets_target_if host address true None _ = refused host refusal.NoDevice
-resets_target_if host address true (Some handle) None = refused host refusal.NoIdentifier
-resets_target_if host address true (Some handle) (Some smid) = given (posts_task host smid (request.TargetReset address) handle target_reset 0) [] smid
+-- the first cause that holds
+abbrev pub host_cause_of_target_reset : Host → ℕ → Option Refusal
+host_cause_of_target_reset host address =
+    if not (is_up host.mode) then Some refusal.NotOperational
+    else if is_none (ready_handle host.phases address) then Some refusal.NoDevice
+    else if is_none (least_free High host.pool) then Some refusal.NoIdentifier
+    else None
 
 -- the disk of an address is to be reset
 abbrev pub resets_target : Host → ℕ → Called Host (Result ℕ Refusal)
-resets_target host address = resets_target_if host address (is_up host.mode) (ready_handle host.phases address) (least_free High host.pool)
+resets_target host address =
+    let smid : ℕ = next_smid host High in
+    let asked : Host = posts_task host smid (request.TargetReset address) (ready_handle_at host address) target_reset 0 in
+    granted_unless (host_cause_of_target_reset host address) host (given asked [] smid)
 
 -- ---- the start and the resets
 

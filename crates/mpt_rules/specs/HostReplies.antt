@@ -25,6 +25,24 @@ use Rattle.mpt_rules.specs.HostPosts.{asks_internal, frees, frees_high, frees_in
 use Rattle.mpt_rules.specs.HostRemoval.{hears_event, left, quietly, reads_page, removed}
 use Rattle.mpt_rules.specs.HostReturns.{frame_of, has_frame}
 
+-- a reply that the host hears
+pub record Heard : Type 0 where
+  -- the reply descriptor, and the frame that it names, where it is an address reply
+  pub descriptor : ℕ
+  pub frame : Option (List ℕ)
+  -- the configuration page or the data that was read, and the sense data
+  pub page : List ℕ
+  pub sense : List ℕ
+
+-- it came up as these
+abbrev pub heard_of : ℕ → Option (List ℕ) → List ℕ → List ℕ → Heard
+heard_of descriptor frame page sense = record { descriptor = descriptor; frame = frame; page = page; sense = sense }
+
+-- the frame's bytes, which are read only of a reply to another request than a SCSI IO, or of an event: one of these
+-- without a frame is strange, so none of them is empty
+abbrev pub reply_bytes : Heard → List ℕ
+reply_bytes reply = unwrap_or reply.frame []
+
 -- ---- what every reply does
 
 -- a frame that came goes back
@@ -128,27 +146,30 @@ unless_resetting host smid caused = if is_resetting host.mode then quietly (free
 -- ---- a reply, by the request that it answers
 
 -- a command, an abort and a target reset that was asked are answered also while a reset is going on
-abbrev pub hears_answer : Host → ℕ → Request → Option (List ℕ) → List ℕ → List ℕ → Outcome Host
-hears_answer host smid (request.Command n) frame page sense = answers host smid n (ended frame page sense)
-hears_answer host smid (request.Abort n task) frame page sense = ends_abort host smid n task (unwrap_or frame [])
-hears_answer host smid (request.TargetReset address) frame page sense = ends_target host smid address (unwrap_or frame [])
-hears_answer host smid (request.Leave handle) frame page sense = unless_resetting host smid (quietly (left host smid handle))
-hears_answer host smid (request.Page handle) frame page sense = unless_resetting host smid (reads_page host smid handle (address_read (unwrap_or frame []) page))
-hears_answer host smid (request.Remove handle) frame page sense = unless_resetting host smid (quietly (removed host smid handle))
-hears_answer host smid (request.Ack event context) frame page sense = unless_resetting host smid (quietly (frees_internal host smid))
-hears_answer host smid request.Notification frame page sense = unless_resetting host smid (quietly (hears_notified host smid))
-hears_answer host smid request.PortEnable frame page sense = unless_resetting host smid (is_up_now host smid)
+abbrev pub hears_answer : Host → ℕ → Request → Heard → Outcome Host
+hears_answer host smid (request.Command n) reply = answers host smid n (ended reply.frame reply.page reply.sense)
+hears_answer host smid (request.Abort n task) reply = ends_abort host smid n task (reply_bytes reply)
+hears_answer host smid (request.TargetReset address) reply = ends_target host smid address (reply_bytes reply)
+hears_answer host smid (request.Leave handle) reply = unless_resetting host smid (quietly (left host smid handle))
+hears_answer host smid (request.Page handle) reply =
+    unless_resetting host smid (reads_page host smid handle (address_read (reply_bytes reply) reply.page))
+hears_answer host smid (request.Remove handle) reply = unless_resetting host smid (quietly (removed host smid handle))
+hears_answer host smid (request.Ack event context) reply = unless_resetting host smid (quietly (frees_internal host smid))
+hears_answer host smid request.Notification reply = unless_resetting host smid (quietly (hears_notified host smid))
+hears_answer host smid request.PortEnable reply = unless_resetting host smid (is_up_now host smid)
 
 -- a reply without a request is an event
-abbrev pub hears_reply_to : Host → ℕ → Option Request → Option (List ℕ) → List ℕ → List ℕ → Outcome Host
-hears_reply_to host smid None frame page sense = if is_resetting host.mode then quietly host else hears_event host (unwrap_or frame [])
-hears_reply_to host smid (Some r) frame page sense = hears_answer host smid r frame page sense
+abbrev pub hears_reply_to : Host → ℕ → Option Request → Heard → Outcome Host
+hears_reply_to host smid None reply = if is_resetting host.mode then quietly host else hears_event host (reply_bytes reply)
+hears_reply_to host smid (Some r) reply = hears_answer host smid r reply
 
 -- the identifier's request
 abbrev pub request_of : Host → ℕ → Option Request
 request_of host smid = record_of (slot_of host.pool smid)
 
 -- first the frame goes back and the ring's entry is given free, and then the reply is heard
-abbrev pub hears_reply : Host → ℕ → ℕ → Option (List ℕ) → List ℕ → List ℕ → Outcome Host
-hears_reply host queue descriptor frame page sense =
-    hears_reply_to (takes_entry (takes_frame host descriptor frame) queue) (smid_in descriptor) (request_of host (smid_in descriptor)) frame page sense
+abbrev pub hears_reply : Host → ℕ → Heard → Outcome Host
+hears_reply host queue reply =
+    let smid : ℕ = smid_in reply.descriptor in
+    let after : Host = takes_entry (takes_frame host reply.descriptor reply.frame) queue in
+    hears_reply_to after smid (request_of host smid) reply

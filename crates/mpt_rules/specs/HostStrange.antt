@@ -1,5 +1,5 @@
 -- What comes up and is strange: one word for each why, in the order in which they are looked at.
-use Rattle.std.specs.Prelude.{ℕ, ◌==◌, nat_lt, nat_le, ◌&&◌, ◌||◌, not, Bool, true, false, List, slice_index_or, is_some, is_none, Option, Some, None, option_map, if◌then◌else◌}
+use Rattle.std.specs.Prelude.{ℕ, ◌==◌, nat_lt, nat_le, ◌&&◌, ◌||◌, not, Bool, true, false, List, [], ◌∷◌, slice_index_or, is_some, is_none, Option, Some, None, option_map, if◌then◌else◌}
 use Rattle.std.specs.Option.{option_or}
 use Rattle.mpi_layout.specs.Rows.{first_fault}
 use Rattle.config_pages.specs.DevicePage0.{device_page0_layout}
@@ -167,27 +167,34 @@ not_absent host smid (Some frame) = if smid == 0 then not_absent_in host frame e
 
 -- ---- the first why that holds
 
+-- of some that are looked at in their order
+abbrev pub first_some : List (Option Why) → Option Why
+first_some [] = None
+first_some (why ∷ rest) = option_or why (first_some rest)
+
 -- of a value
 abbrev pub why_value : Host → ℕ → ℕ → Option Why
-why_value host queue value = option_or (wrong_queue_of_value queue) (option_or (no_read host) (why_door host host.machine value))
+why_value host queue value = first_some (wrong_queue_of_value queue ∷ no_read host ∷ why_door host host.machine value ∷ [])
 
 -- of a reply
 abbrev pub why_reply : Host → ℕ → ℕ → Option (List ℕ) → List ℕ → Option Why
 why_reply host queue descriptor frame page =
     let smid : ℕ = smid_in descriptor in
     let asked : Option Request = request_of host smid in
-    option_or (wrong_queue_of_reply queue descriptor)
-    (option_or (bad_descriptor descriptor frame)
-    (option_or (not_returned host descriptor frame)
-    (option_or (bad_frame frame)
-    (option_or (not_open host smid)
-    (option_or (bad_answer asked frame page)
-    (option_or (bad_status asked (status_by frame))
-    (not_absent host smid frame)))))))
+    first_some (
+      wrong_queue_of_reply queue descriptor
+      ∷ bad_descriptor descriptor frame
+      ∷ not_returned host descriptor frame
+      ∷ bad_frame frame
+      ∷ not_open host smid
+      ∷ bad_answer asked frame page
+      ∷ bad_status asked (status_by frame)
+      ∷ not_absent host smid frame
+      ∷ [])
 
 -- of a mark
 abbrev pub why_mark : Host → ℕ → ℕ → Option Why
-why_mark host queue generation = option_or (wrong_queue_of_mark queue) (bad_mark host queue generation)
+why_mark host queue generation = first_some (wrong_queue_of_mark queue ∷ bad_mark host queue generation ∷ [])
 
 -- why an item that comes on a queue is strange, where it is
 abbrev pub why_strange : Host → ℕ → Up → Option Why

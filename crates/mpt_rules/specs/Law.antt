@@ -20,7 +20,7 @@ use Rattle.mpt_trace.specs.FitsTies.{IsTied}
 use Rattle.mpt_trace.specs.Lines.{Line, Asked, Stepped, Drained}
 use Rattle.mpt_trace.specs.ReadingSchedule.{IsInput}
 use Rattle.mpt_trace.specs.Marks.{RepliesOnTheirLanes, LanesAreMarked}
-use Rattle.mpt_trace.specs.Messages as messages
+use Rattle.mpt_trace.specs.Messages.{MessagesStand}
 use Rattle.mpt_trace.specs.DoorbellWords.{DoorbellTalks}
 use Rattle.mpt_trace.specs.Paths.{IsOnPaths}
 use Rattle.mpt_trace.specs.Replies.{RepliesTell}
@@ -40,64 +40,27 @@ use Rattle.mpt_rules.specs.Sessions.{EndsQuiet, IsSession, Session, last_host, s
 
 -- ---- of every trace
 
--- in every prefix, what was taken from a lane is a prefix of what was put on it
-abbrev pub LanesAreQueues : Setting → List Entry → Type 0
-LanesAreQueues s t = LanesInOrder t
-
 -- each identifier goes round: its post is put and taken, and then its reply, before it is posted again
-abbrev pub IdentifiersGoRound : Setting → List Entry → Type 0
-IdentifiersGoRound s t = IdentifiersInCycles t × ClassesKept t
-
--- a submission is accepted under the least identifier that no open submission and no open abort has
-abbrev pub LeastIdentifiersAreTaken : Setting → List Entry → Type 0
-LeastIdentifiersAreTaken s t = LeastAreAccepted t
-
--- each reply frame goes round: its return is put and taken, and then a reply in it
-abbrev pub FramesGoRound : Setting → List Entry → Type 0
-FramesGoRound s t = FramesInCycles t
-
--- each plugged disk is bound to the least unbound handle, at once or in its turn
-abbrev pub HandlesAreServed : Setting → List Entry → Type 0
-HandlesAreServed s t = PlugsAreServed t
+abbrev pub IdentifiersGoRound : List Entry → Type 0
+IdentifiersGoRound t = IdentifiersInCycles t × ClassesKept t
 
 -- a handle is unbound by a remove device alone, and that is asked only after the host was told that the disk left
 -- and a target reset that was asked since was answered
-abbrev pub HandlesAreRemoved : Setting → List Entry → Type 0
-HandlesAreRemoved s t = UnbindsAreRemovals t × ((h : ℕ) → RemovesWhatLeft h t)
+abbrev pub HandlesAreRemoved : List Entry → Type 0
+HandlesAreRemoved t = UnbindsAreRemovals t × ((h : ℕ) → RemovesWhatLeft h t)
 
 -- a device page has the address to which its handle is bound, and a submission goes to the one handle that has a
 -- page of its disk
-abbrev pub PagesHaveTheirAddress : Setting → List Entry → Type 0
-PagesHaveTheirAddress s t = PagesAreOfBindings t × PostsGoToPages t
-
--- a task goes to the address to which the handle of its post is bound
-abbrev pub TasksHaveTheirAddress : Setting → List Entry → Type 0
-TasksHaveTheirAddress s t = TasksGoToBindings t
-
--- each post and each reply is a message with the values that host and controller write
-abbrev pub MessagesStand : Setting → List Entry → Type 0
-MessagesStand s t = messages.MessagesStand s.queues t
-
--- what passes the doorbell in a handshake is one message of the host and its reply, or where a reset cuts it off a
--- beginning of these
-abbrev pub HandshakesHandOver : Setting → List Entry → Type 0
-HandshakesHandOver s t = DoorbellTalks s.queues t
-
--- what names a command's identifier, from its accept to its answer, is on one of the five paths
-abbrev pub CommandsGoOnPaths : Setting → List Entry → Type 0
-CommandsGoOnPaths s t = (smid : ℕ) → IsOnPaths smid t
-
--- the reply to a command tells the result that its disk gave
-abbrev pub RepliesTellResults : Setting → List Entry → Type 0
-RepliesTellResults s t = (smid : ℕ) → RepliesTell smid t
+abbrev pub PagesHaveTheirAddress : List Entry → Type 0
+PagesHaveTheirAddress t = PagesAreOfBindings t × PostsGoToPages t
 
 -- the counts of aborts and target resets are those of what they stopped
-abbrev pub StopsAreCounted : Setting → List Entry → Type 0
-StopsAreCounted s t = ((smid : ℕ) → AreCounted smid t) × ((smid : ℕ) → StopsAreTold smid t)
+abbrev pub StopsAreCounted : List Entry → Type 0
+StopsAreCounted t = ((smid : ℕ) → AreCounted smid t) × ((smid : ℕ) → StopsAreTold smid t)
 
 -- a reply is put on its queue's lane, and each reset's mark on each lane above up, where the host awaits it
-abbrev pub RepliesKeepTheirQueues : Setting → List Entry → Type 0
-RepliesKeepTheirQueues s t = RepliesOnTheirLanes s.queues t × LanesAreMarked s.queues t
+abbrev pub RepliesKeepTheirQueues : ℕ → List Entry → Type 0
+RepliesKeepTheirQueues queues t = RepliesOnTheirLanes queues t × LanesAreMarked queues t
 
 -- the number's accept, and its answer
 abbrev pub is_accept : ℕ → Entry → Bool
@@ -113,40 +76,44 @@ abbrev pub AllAreAnswered : List Entry → Type 0
 AllAreAnswered t = (n : ℕ) → count_by (is_accept n) t ≡ count_by (is_answer n) t
 
 -- no number is accepted twice or answered twice, and at each end of a reset none is unanswered
-pub record AnsweredAtMostOnce (s : Setting) (t : List Entry) : Type 0 where
+pub record AnsweredAtMostOnce (t : List Entry) : Type 0 where
   pub accepted : (n : ℕ) → count_by (is_accept n) t ≤ 1
   pub answered : (n : ℕ) → count_by (is_answer n) t ≤ 1
   pub at_reset : (before after : List Entry) → t ≡ before ++ entry.ResetDone ∷ after → AllAreAnswered before
 
--- what the host tells is what the replies say, each reset unbinds all handles, and indices, reply frames and the
--- interrupt status go on in order
-abbrev pub EntriesAreTied : Setting → List Entry → Type 0
-EntriesAreTied s t = IsTied t
-
--- the trace shows a run of the machine of disks: each accepted command runs at most once, at the disk it was
--- submitted for, before its one answer, which is that disk's result or a failure with a stated cause
-abbrev pub DisksRun : Setting → List Entry → Type 0
-DisksRun s t = ViewIsRun s.disks t
-
--- all of this
+-- what is so of every trace of a setting
 pub record IsLawful (s : Setting) (t : List Entry) : Type 0 where
-  pub lanes : LanesAreQueues s t
-  pub identifiers : IdentifiersGoRound s t
-  pub least : LeastIdentifiersAreTaken s t
-  pub frames : FramesGoRound s t
-  pub served : HandlesAreServed s t
-  pub removed : HandlesAreRemoved s t
-  pub pages : PagesHaveTheirAddress s t
-  pub tasks : TasksHaveTheirAddress s t
-  pub messages : MessagesStand s t
-  pub handshakes : HandshakesHandOver s t
-  pub paths : CommandsGoOnPaths s t
-  pub results : RepliesTellResults s t
-  pub counts : StopsAreCounted s t
-  pub queues : RepliesKeepTheirQueues s t
-  pub once : AnsweredAtMostOnce s t
-  pub tied : EntriesAreTied s t
-  pub disks : DisksRun s t
+  -- in every prefix, what was taken from a lane is a prefix of what was put on it
+  pub lanes : LanesInOrder t
+  pub identifiers : IdentifiersGoRound t
+  -- a submission is accepted under the least identifier that no open submission and no open abort has
+  pub least : LeastAreAccepted t
+  -- each reply frame goes round: its return is put and taken, and then a reply in it
+  pub frames : FramesInCycles t
+  -- each plugged disk is bound to the least unbound handle, at once or in its turn
+  pub served : PlugsAreServed t
+  pub removed : HandlesAreRemoved t
+  pub pages : PagesHaveTheirAddress t
+  -- a task goes to the address to which the handle of its post is bound
+  pub tasks : TasksGoToBindings t
+  -- each post and each reply is a message with the values that host and controller write
+  pub messages : MessagesStand s.queues t
+  -- what passes the doorbell in a handshake is one message of the host and its reply, or where a reset cuts it off a
+  -- beginning of these
+  pub handshakes : DoorbellTalks s.queues t
+  -- what names a command's identifier, from its accept to its answer, is on one of the five paths
+  pub paths : (smid : ℕ) → IsOnPaths smid t
+  -- the reply to a command tells the result that its disk gave
+  pub results : (smid : ℕ) → RepliesTell smid t
+  pub counts : StopsAreCounted t
+  pub queues : RepliesKeepTheirQueues s.queues t
+  pub once : AnsweredAtMostOnce t
+  -- what the host tells is what the replies say, each reset unbinds all handles, and indices, reply frames and the
+  -- interrupt status go on in order
+  pub tied : IsTied t
+  -- the trace shows a run of the machine of disks: each accepted command runs at most once, at the disk it was
+  -- submitted for, before its one answer, which is that disk's result or a failure with a stated cause
+  pub disks : ViewIsRun s.disks t
 
 -- ---- of every world
 
