@@ -1,4 +1,5 @@
--- The block of a turn: the entries that an input or a step of a choice makes.
+-- The block of a turn: the entries that an input or a step of a choice makes, judged by the model of what is queued
+-- (`Queued`) and by the entries alone.
 use Rattle.std.specs.Prelude.{◌≡◌, ℕ, ◌⊎◌, ◌==◌, ◌&&◌, ◌||◌, not, nat_lt, Bool, true, false, if◌then◌else◌, List, [], ◌∷◌, ◌++◌, filter_map, length, Option, Some, None, MatchOption}
 use Rattle.std.specs.List.{list_all, list_any}
 use Rattle.mpt_trace.specs.declared.input.Input.{Input}

@@ -1,5 +1,7 @@
 -- The identifiers of the host's high priority and internal posts: each is the least free one of its class as the host
 -- makes the post, and the posts are put in the order in which they are made.
+-- This is a model of the host's identifiers, apart from its own pool: which posts a reply or an event makes is told by
+-- the trace, and the host's pool isn't, so that the rule is one of the trace and not one of the host told again.
 use Rattle.std.specs.Prelude.{◌≡◌, ℕ, zero, suc, ◌+◌, ◌-◌, ◌==◌, ◌&&◌, not, nat_le, Bool, true, false, if◌then◌else◌, List, [], ◌∷◌, ◌++◌, drop, filter, Option, Some, None}
 use Rattle.std.specs.Bool.{MatchBool}
 use Rattle.mpi_rings.specs.declared.request_descriptor.PostKind.{PostKind}

@@ -1,5 +1,8 @@
--- What is queued, as the blocks of a schedule so far tell it: what the host has still to put, the posts at the
--- controller, and the tasks, notices and items at the fabric.
+-- A model of what is queued, apart from the host's, the controller's and the fabric's own: what the host has still to
+-- put, the posts at the controller, and the tasks, notices and items at the fabric, as the schedule's lines and the
+-- entries so far tell it. It is a second one so that whether a trace fits a schedule can be judged of the two texts
+-- alone, whatever made the trace, and a mistake in the rules of a part isn't one here too. It has only what lines and
+-- entries decide: how much of its start the host has still to put is in no entry, so `starts` ends with the first put.
 use Rattle.std.specs.Prelude.{ℕ, ◌+◌, ◌-◌, ◌==◌, ◌&&◌, not, Bool, true, false, if◌then◌else◌, List, [], ◌∷◌, ◌++◌, drop, filter, fold, length, Option, Some}
 use Rattle.std.specs.List.{list_any}
 use Rattle.mpi_rings.specs.declared.request_descriptor.PostKind.{PostKind}

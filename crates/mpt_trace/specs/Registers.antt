@@ -106,6 +106,10 @@ FramesInOrder t = Passes ring_next RingAsks [] t
 
 -- ---- HostInterruptStatus
 
+-- A model of the doorbell as entries show it, apart from the controller's own registers (`register_written` of
+-- `mpi_doorbell`). Those can't be run over the writes that were taken alone: the words of a reply are the controller's
+-- doing and in no entry. Here a reply is there behind the message's last dword, and it is over where the Doorbell was
+-- read as unused.
 pub record Bell : Type 0 where
   -- IOC2SYS_DB_STATUS
   pub rings : Bool
