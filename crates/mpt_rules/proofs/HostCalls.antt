@@ -4,12 +4,12 @@ use Rattle.scsi_disk.specs.declared.command.Command.{Command}
 use Rattle.mpt_trace.specs.declared.entry.Entry.TheVariants as entry
 use Rattle.mpt_trace.specs.declared.refusal.Refusal.{Refusal}
 use Rattle.mpt_trace.specs.declared.refusal.Refusal.TheVariants as refusal
-use Rattle.mpt_trace.specs.Fields.{target_reset}
+use Rattle.mpt_wire.specs.Messages.Fields.{target_reset}
 use Rattle.mpt_rules.specs.declared.request.Request.TheVariants as request
 use Rattle.mpt_rules.specs.Outcome.{Called}
-use Rattle.mpt_rules.specs.HostParts.{Cmd, Host}
-use Rattle.mpt_rules.specs.HostPosts.{posts_task}
-use Rattle.mpt_rules.specs.HostInputs.{accepts, asks_abort, given, granted_unless}
+use Rattle.mpt_rules.specs.Host.Parts.{Cmd, Host}
+use Rattle.mpt_rules.specs.Host.Posts.{posts_task}
+use Rattle.mpt_rules.specs.Host.Inputs.{with_accepted, with_abort_asked, given, granted_unless}
 
 -- a submission: whether its number was used, whether the host is up, the disk's handle, whether the command fits, and
 -- the least free identifier
@@ -23,7 +23,7 @@ submits_by host n address command used up handle fits smid =
     else if is_none smid then Some refusal.NoIdentifier
     else None)
     host
-    (given (accepts host n address command (unwrap_or handle 0) (unwrap_or smid 0)) (entry.Accept n address (unwrap_or smid 0) ∷ []) (unwrap_or smid 0))
+    (given (with_accepted host n address command (unwrap_or handle 0) (unwrap_or smid 0)) (entry.Accept n address (unwrap_or smid 0) ∷ []) (unwrap_or smid 0))
 
 -- an abort: whether the host is up, the open submission, the open abort that names it, and the least free identifier
 abbrev pub aborts_by : Host → ℕ → Bool → Option Cmd → Option ℕ → Option ℕ → Called Host (Result ℕ Refusal)
@@ -35,7 +35,7 @@ aborts_by host n up cmd abort smid =
     else if is_none smid then Some refusal.NoIdentifier
     else None)
     host
-    (given (asks_abort host n (unwrap_or cmd (record { smid = 0; handle = 0 })) (unwrap_or smid 0)) [] (unwrap_or smid 0))
+    (given (with_abort_asked host n (unwrap_or cmd (record { smid = 0; handle = 0 })) (unwrap_or smid 0)) [] (unwrap_or smid 0))
 
 -- a target reset: whether the host is up, the disk's handle, and the least free identifier
 abbrev pub resets_target_by : Host → ℕ → Bool → Option ℕ → Option ℕ → Called Host (Result ℕ Refusal)
