@@ -33,10 +33,7 @@ impl Model for Disk {
 }
 
 impl Disk {
-    /// The greatest number of blocks.
-    pub const MAX_BLOCKS: u16 = 1024;
-
-    /// A disk of these many blocks, from 1 to `MAX_BLOCKS`, that are all zero; or OutOfMemory.
+    /// A disk of these many blocks, from 1 to 1,024, that are all zero; or OutOfMemory.
     pub fn new(alloc: Global, address: Address, blocks: u16) -> Result<Disk, OutOfMemory>
         requires some_block { 1 ≤ blocks }
         requires at_most { blocks ≤ 1024 }

@@ -18,6 +18,10 @@ use std::marker::Model;
 pub struct NoIdentifier;
 
 impl fmt::Display for NoIdentifier {
+    ghost use Rattle.std.specs.Prelude.{Some, codes};
+
+    ghost output = { λ _. Some (codes "no identifier is free") };
+
     fn fmt<W: fmt::Write>(&self, f: &mut fmt::Formatter<W>) -> fmt::Result {
         write!(f, "no identifier is free")
     }
