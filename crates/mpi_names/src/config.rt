@@ -19,7 +19,7 @@ pub const MPI2_SASDEVICE0_PAGEVERSION: u8 = 0x08;
 pub const MPI2_SAS_DEVICE_PGAD_FORM_HANDLE: u32 = 0x2000_0000;
 
 /// The bytes of SAS Device Page 0 (MPI2_CONFIG_PAGE_SAS_DEV_0).
-pub const SAS_DEVICE_PAGE_0_BYTES: u8 = 56;
+pub const SAS_DEVICE_PAGE_0_BYTES: u32 = 56;
 
 /// The same in words of 4 bytes, as ExtPageLength has it.
 pub const SAS_DEVICE_PAGE_0_DWORDS: u16 = 14;

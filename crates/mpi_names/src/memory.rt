@@ -34,7 +34,7 @@ pub const DATA_BUFFER_BYTES: u64 = 4096;
 pub const SENSE_BUFFERS: u32 = 0x0010_0000;
 
 /// The bytes of an identifier's sense buffer.
-pub const SENSE_BUFFER_BYTES: u8 = 96;
+pub const SENSE_BUFFER_BYTES: u32 = 96;
 
 /// The address of the first reply descriptor post queue (ReplyDescriptorPostQueueAddress).
 pub const REPLY_POST_QUEUE: u64 = 0x0000_0003_0000_0000;
