@@ -1,7 +1,7 @@
-//! Arrays whose last elements are zeros.
+//! A message's last bytes, which no row reads: so many count, and zeros stand behind them.
 ghost use Rattle.std.specs.Prelude.{◌≡◌, ◌≤◌, ◌==◌, ◌++◌, length, drop};
 ghost use Rattle.std.specs.List.{list_all};
-ghost use Rattle.event_msgs.specs.Padding.{padded};
+ghost use Rattle.mpi_layout.specs.Tail.{padded};
 
 // Writes the bytes at the front. The others stay.
 fn put_front(bytes: &[u8], out: &mut [u8])
@@ -11,8 +11,8 @@ fn put_front(bytes: &[u8], out: &mut [u8])
     out[..bytes.len()].copy_from_slice(bytes);
 }
 
-// The bytes, and zeros behind them.
-pub(crate) fn padded<const N: usize>(bytes: &[u8]) -> [u8; N]
+/// The bytes, and zeros behind them.
+pub fn padded<const N: usize>(bytes: &[u8]) -> [u8; N]
     requires { length bytes.now ≤ N }
     ensures { result ≡ padded N bytes.now }
 {
@@ -21,8 +21,8 @@ pub(crate) fn padded<const N: usize>(bytes: &[u8]) -> [u8; N]
     all
 }
 
-// Whether the bytes from this place on are 0.
-pub(crate) fn is_zero_from(bytes: &[u8], from: usize) -> bool
+/// Whether the bytes from this place on are 0.
+pub fn is_zero_from(bytes: &[u8], from: usize) -> bool
     ensures { result ≡ list_all (λ byte. byte == 0) (drop from bytes.now) }
 {
     bytes.iter().skip(from).all(|byte| *byte == 0)
