@@ -53,6 +53,6 @@ unfoldable pub least_unbound_from : ℕ → ℕ → (ℕ → Option Plug) → Op
 least_unbound_from h zero bound = None
 least_unbound_from h (suc n) bound = if is_none (bound h) then Some h else least_unbound_from (h + 1) n bound
 
--- the least handle from 0x0009 to 0x0048 that isn't bound
+-- the least handle of disks that isn't bound
 abbrev pub least_unbound_in : (ℕ → Option Plug) → Option ℕ
-least_unbound_in bound = least_unbound_from 0x0009 64 bound
+least_unbound_in bound = least_unbound_from FIRST_DISK_HANDLE DISK_HANDLES bound
