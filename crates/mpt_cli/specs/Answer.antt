@@ -21,7 +21,7 @@ use Rattle.mpt_cli.specs.declared.command.Decoded.{Decoded}
 use Rattle.mpt_cli.specs.declared.command.Decoded.TheVariants as decoded
 use Rattle.mpt_cli.specs.declared.status.Status.{Status}
 use Rattle.mpt_cli.specs.declared.status.Status.TheVariants as status
-use Rattle.mpt_cli.specs.Descriptors.{page_listing, reply_descriptor_listing, request_descriptor_listing}
+use Rattle.mpt_messages.specs.DescriptorListing.{page_listing, reply_descriptor_listing, request_descriptor_listing}
 use Rattle.mpt_cli.specs.Input.{line_count}
 
 -- the answer to bytes as a request of this kind: the listing of the request that they stand for, or the line of

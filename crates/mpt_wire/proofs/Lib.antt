@@ -6,6 +6,7 @@ pub mod Cycles
 pub mod Departures
 pub mod Each
 pub mod EndExamples
+pub mod FieldRows
 pub mod FitsExamples
 pub mod HandleExamples
 pub mod HandlesOnWire

@@ -6,11 +6,9 @@ ghost use Rattle.scsi_disk.specs.Performed.{capacity_data as capacity_data_of};
 use crate::operation::Transfer;
 use crate::out_of_memory::OutOfMemory;
 use byteorder::{BigEndian, ByteOrder};
+use mpi_names::Address;
 use std::alloc::Global;
 use std::marker::Model;
-
-/// A SAS address.
-pub type Address = u64;
 
 /// The length of a block, in bytes.
 pub const BLOCK_LEN: usize = 512;

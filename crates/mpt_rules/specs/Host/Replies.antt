@@ -5,7 +5,7 @@ use Rattle.scsi_disk.specs.declared.scsi_result.ScsiResult.{ScsiResult}
 use Rattle.scsi_disk.specs.declared.scsi_result.TheConstants.{GOOD}
 use Rattle.smid_pool.specs.Pool.{Slot, Free, Open, Parked, record_of, slot_of, with_slot}
 use Rattle.mpi_doorbell.specs.declared.registers.TheConstants.{REPLY_POST_HOST_INDEX}
-use Rattle.mpi_rings.specs.declared.post_ring.TheConstants.{POST_RING_ENTRIES}
+use Rattle.mpi_names.specs.declared.memory.TheConstants.{POST_RING_ENTRIES}
 use Rattle.mpt_trace.specs.declared.item.Down.TheVariants as down
 use Rattle.mpt_trace.specs.declared.entry.Entry.TheVariants as entry
 use Rattle.mpt_trace.specs.declared.host_state.HostState.TheVariants as state

@@ -1,7 +1,7 @@
 -- The host's reply frames: where each is, how one is returned, and what leaves the host's outbox.
 use Rattle.std.specs.Prelude.{ℕ, ◌+◌, ◌-◌, ◌/◌, ◌%◌, ◌==◌, nat_lt, ◌&&◌, Bool, true, false, List, [], ◌∷◌, ◌++◌, slice_index_or, slice_set, if◌then◌else◌}
 use Rattle.std.specs.List.{fold, range_with_len}
-use Rattle.mpi_rings.specs.declared.free_ring.TheConstants.{FREE_RING_ENTRIES}
+use Rattle.mpi_names.specs.declared.memory.TheConstants.{FREE_RING_ENTRIES}
 use Rattle.mpt_trace.specs.declared.item.Down.{Down}
 use Rattle.mpt_trace.specs.declared.item.Down.TheVariants as down
 use Rattle.mpt_wire.specs.Messages.Fields.{reply_frame_address}

@@ -1,5 +1,6 @@
 -- What a handle is bound to.
 use Rattle.std.specs.Prelude.{◌≡◌, ℕ, zero, suc, ◌+◌, ◌≤◌, Bool, true, false, ◌==◌, if◌then◌else◌, Option, Some, None, is_none, List}
+use Rattle.mpi_names.specs.declared.handle.TheConstants.{DISK_HANDLES, FIRST_DISK_HANDLE, LAST_DISK_HANDLE}
 use Rattle.mpt_trace.specs.declared.entry.Entry.{Entry}
 use Rattle.mpt_trace.specs.declared.entry.Entry.TheVariants as entry
 use Rattle.mpt_wire.specs.Walks.Passes.{state_after}
@@ -13,7 +14,7 @@ pub record Plug : Type 0 where
 
 -- a handle that is given to disks
 abbrev pub IsDiskHandle : ℕ → Type 0
-IsDiskHandle h = (0x0009 ≤ h) × (h ≤ 0x0048)
+IsDiskHandle h = (FIRST_DISK_HANDLE ≤ h) × (h ≤ LAST_DISK_HANDLE)
 
 -- the entry ends what the handle was bound to
 abbrev pub ends_binding : ℕ → Entry → Bool
@@ -52,6 +53,6 @@ unfoldable pub least_unbound_from : ℕ → ℕ → (ℕ → Option Plug) → Op
 least_unbound_from h zero bound = None
 least_unbound_from h (suc n) bound = if is_none (bound h) then Some h else least_unbound_from (h + 1) n bound
 
--- the least handle from 0x0009 to 0x0048 that isn't bound
+-- the least handle of disks that isn't bound
 abbrev pub least_unbound_in : (ℕ → Option Plug) → Option ℕ
-least_unbound_in bound = least_unbound_from 0x0009 64 bound
+least_unbound_in bound = least_unbound_from FIRST_DISK_HANDLE DISK_HANDLES bound

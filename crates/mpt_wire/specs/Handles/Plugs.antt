@@ -2,6 +2,7 @@
 use Rattle.std.specs.Prelude.{◌≡◌, ℕ, ◌≤◌, ◌<◌, Bool, true, false, not, ◌==◌, Option, Some, None, List, [], ◌∷◌, ◌++◌, length, filter}
 use Rattle.std.specs.List.{list_any}
 use Rattle.std.specs.Bool.{MatchBool}
+use Rattle.mpi_names.specs.declared.handle.TheConstants.{FIRST_DISK_HANDLE}
 use Rattle.mpt_trace.specs.declared.lane.LaneName.TheVariants as lane
 use Rattle.mpt_trace.specs.declared.item.Item.TheVariants as item
 use Rattle.mpt_trace.specs.declared.item.Back.TheVariants as back
@@ -71,7 +72,7 @@ pub record IsBoundNext (plug : Plug) (after : List Entry) : Type 0 where
 pub record BindsLeast (before : List Entry) (h : ℕ) (plug : Plug) : Type 0 where
   pub handle : IsDiskHandle h
   pub unbound : IsUnbound before h
-  pub least : (k : ℕ) → 0x0009 ≤ k → k < h → (p : Plug) × IsBoundTo before k p
+  pub least : (k : ℕ) → FIRST_DISK_HANDLE ≤ k → k < h → (p : Plug) × IsBoundTo before k p
   pub taken : WasTaken before plug
 
 -- each bind names the least unbound handle and a plug that was taken; each plug that isn't dropped is bound at

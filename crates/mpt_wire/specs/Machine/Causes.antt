@@ -3,6 +3,8 @@ use Rattle.std.specs.Prelude.{ℕ, ◌+◌, ◌==◌, ◌&&◌, ◌||◌, not, n
 use Rattle.std.specs.List.{list_any}
 use Rattle.std.specs.FinMap as finmap
 use Rattle.std.specs.FinSet as set
+use Rattle.mpi_names.specs.declared.limit.TheConstants.{MAX_PLUGS}
+use Rattle.mpi_names.specs.declared.smid.TheConstants.{HIGH_PRIORITY_SMIDS, SCSI_IO_SMIDS}
 use Rattle.scsi_disk.specs.Command.{fits}
 use Rattle.scsi_disk.specs.declared.command.Command.{Command}
 use Rattle.mpt_trace.specs.declared.host_state.HostState.{HostState}
@@ -50,10 +52,10 @@ has_device m a = is_some (m.ready a) && is_some (m.disks a)
 
 -- the numbers of identifiers of SCSI IO and of high priority requests
 abbrev pub scsi_io_identifiers : ℕ
-scsi_io_identifiers = 256
+scsi_io_identifiers = SCSI_IO_SMIDS
 
 abbrev pub high_priority_identifiers : ℕ
-high_priority_identifiers = 8
+high_priority_identifiers = HIGH_PRIORITY_SMIDS
 
 -- the open requests, and the answered ones that an open abort names, have all identifiers
 abbrev pub is_full : Machine → Bool
@@ -77,7 +79,7 @@ has_disk_at m place = list_any (λ a. stands_in place (place_of (m.disks a))) m.
 
 -- a disk may be plugged so often
 abbrev pub most_plugs : ℕ
-most_plugs = 100000
+most_plugs = MAX_PLUGS
 
 -- ---- the first cause that holds
 

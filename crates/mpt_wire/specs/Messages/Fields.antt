@@ -1,6 +1,11 @@
 -- The fields of descriptors, frames and pages by their names, at the offsets of the headers.
 -- Each means what its name says where the frame is of the message that has it.
 use Rattle.std.specs.Prelude.{ℕ, zero, suc, ◌+◌, ◌*◌, ◌/◌, ◌%◌, ◌^◌, ◌==◌, if◌then◌else◌, List, [], ◌∷◌, take, drop, bit_and, Option, Some, None}
+use Rattle.mpi_names.specs.declared.descriptor.TheConstants.{MPI2_RPY_DESCRIPT_FLAGS_ADDRESS_REPLY, MPI2_RPY_DESCRIPT_FLAGS_SCSI_IO_SUCCESS}
+use Rattle.mpi_names.specs.declared.event.TheConstants.{MPI2_EVENT_SAS_TOPOLOGY_CHANGE_LIST, MPI2_EVENT_SAS_TOPO_RC_MASK, MPI2_EVENT_SAS_TOPO_RC_TARG_ADDED, MPI2_EVENT_SAS_TOPO_RC_TARG_NOT_RESPONDING}
+use Rattle.mpi_names.specs.declared.memory.TheConstants.{FRAME_BYTES, REPLY_FRAMES_ADDRESS}
+use Rattle.mpi_names.specs.declared.sas_operation.TheConstants.{MPI2_SAS_OP_REMOVE_DEVICE}
+use Rattle.mpi_names.specs.declared.task_management.TheConstants.{MPI2_SCSITASKMGMT_TASKTYPE_ABORT_TASK, MPI2_SCSITASKMGMT_TASKTYPE_TARGET_RESET}
 use Rattle.mpi_layout.specs.Rows.{field}
 use Rattle.mpi_rings.specs.declared.request_descriptor.PostKind.{PostKind}
 use Rattle.mpi_rings.specs.declared.request_descriptor.PostKind.TheVariants as post
@@ -42,10 +47,10 @@ post_descriptor kind msix smid handle = flags_of kind + msix * 2 ^ 8 + smid * 2 
 
 -- ReplyFlags: mpi2.h, MPI2_RPY_DESCRIPT_FLAGS_SCSI_IO_SUCCESS and MPI2_RPY_DESCRIPT_FLAGS_ADDRESS_REPLY
 abbrev pub success_flags : ℕ
-success_flags = 0x00
+success_flags = MPI2_RPY_DESCRIPT_FLAGS_SCSI_IO_SUCCESS
 
 abbrev pub address_flags : ℕ
-address_flags = 0x01
+address_flags = MPI2_RPY_DESCRIPT_FLAGS_ADDRESS_REPLY
 
 -- a SCSI IO success reply descriptor, whose TaskTag is the SMID, and an address reply descriptor
 abbrev pub success_descriptor : ℕ → ℕ
@@ -56,7 +61,7 @@ address_descriptor smid address = address_flags + smid * 2 ^ 16 + address * 2 ^ 
 
 -- where the host's memory has its 64 reply frames
 abbrev pub reply_frame_address : ℕ → ℕ
-reply_frame_address frame = 0x0001_0000 + 128 * frame
+reply_frame_address frame = REPLY_FRAMES_ADDRESS + FRAME_BYTES * frame
 
 -- ---- every message
 
@@ -104,10 +109,10 @@ task_mid_in frame = field frame 0x30 2
 
 -- TaskType: mpi2_init.h, MPI2_SCSITASKMGMT_TASKTYPE_ABORT_TASK and MPI2_SCSITASKMGMT_TASKTYPE_TARGET_RESET
 abbrev pub abort_task : ℕ
-abort_task = 0x01
+abort_task = MPI2_SCSITASKMGMT_TASKTYPE_ABORT_TASK
 
 abbrev pub target_reset : ℕ
-target_reset = 0x03
+target_reset = MPI2_SCSITASKMGMT_TASKTYPE_TARGET_RESET
 
 -- IOC Init
 
@@ -171,7 +176,7 @@ controlled_handle_in frame = field frame 0x04 2
 
 -- Operation: mpi2_sas.h, MPI2_SAS_OP_REMOVE_DEVICE
 abbrev pub remove_device : ℕ
-remove_device = 0x0d
+remove_device = MPI2_SAS_OP_REMOVE_DEVICE
 
 -- ---- replies
 
@@ -224,7 +229,7 @@ event_context_in frame = field frame 0x18 4
 
 -- Event: mpi2_ioc.h, MPI2_EVENT_SAS_TOPOLOGY_CHANGE_LIST
 abbrev pub topology_change_list : ℕ
-topology_change_list = 0x001c
+topology_change_list = MPI2_EVENT_SAS_TOPOLOGY_CHANGE_LIST
 
 -- a change in a topology change list: AttachedDevHandle, and the low four bits of PhyStatus
 pub record Change : Type 0 where
@@ -233,13 +238,13 @@ pub record Change : Type 0 where
 
 -- PhyStatus: mpi2_ioc.h, MPI2_EVENT_SAS_TOPO_RC_TARG_ADDED and MPI2_EVENT_SAS_TOPO_RC_TARG_NOT_RESPONDING
 abbrev pub target_added : ℕ
-target_added = 0x01
+target_added = MPI2_EVENT_SAS_TOPO_RC_TARG_ADDED
 
 abbrev pub target_not_responding : ℕ
-target_not_responding = 0x02
+target_not_responding = MPI2_EVENT_SAS_TOPO_RC_TARG_NOT_RESPONDING
 
 abbrev pub change_at : List ℕ → ℕ → Change
-change_at frame at = record { handle = field frame at 2; status = bit_and (field frame (at + 3) 1) 0x0f }
+change_at frame at = record { handle = field frame at 2; status = bit_and (field frame (at + 3) 1) MPI2_EVENT_SAS_TOPO_RC_MASK }
 
 -- so many changes from an offset on
 unfoldable pub changes_from : List ℕ → ℕ → ℕ → List Change

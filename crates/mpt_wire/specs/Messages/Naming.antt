@@ -1,5 +1,6 @@
 -- Which entries name the identifier of a command, and what each says of it.
 use Rattle.std.specs.Prelude.{ℕ, ◌==◌, ◌&&◌, nat_le, Bool, true, false, if◌then◌else◌, Option, Some, None, List}
+use Rattle.mpi_names.specs.declared.ioc_status.TheConstants.{MPI2_IOCSTATUS_SCSI_DATA_UNDERRUN, MPI2_IOCSTATUS_SCSI_DEVICE_NOT_THERE, MPI2_IOCSTATUS_SCSI_TASK_TERMINATED, MPI2_IOCSTATUS_SUCCESS}
 use Rattle.mpi_rings.specs.declared.request_descriptor.PostKind.{PostKind}
 use Rattle.mpi_rings.specs.declared.request_descriptor.PostKind.TheVariants as post
 use Rattle.mpt_messages.specs.declared.function.Function.TheVariants as function
@@ -17,16 +18,16 @@ names_command s descriptor = nat_le (first_smid post.ScsiIo) s && nat_le s (last
 -- IOCStatus: mpi2.h, MPI2_IOCSTATUS_SUCCESS, MPI2_IOCSTATUS_SCSI_DEVICE_NOT_THERE, MPI2_IOCSTATUS_SCSI_DATA_UNDERRUN
 -- and MPI2_IOCSTATUS_SCSI_TASK_TERMINATED
 abbrev pub success : ℕ
-success = 0x0000
+success = MPI2_IOCSTATUS_SUCCESS
 
 abbrev pub device_not_there : ℕ
-device_not_there = 0x0043
+device_not_there = MPI2_IOCSTATUS_SCSI_DEVICE_NOT_THERE
 
 abbrev pub data_underrun : ℕ
-data_underrun = 0x0045
+data_underrun = MPI2_IOCSTATUS_SCSI_DATA_UNDERRUN
 
 abbrev pub task_terminated : ℕ
-task_terminated = 0x0048
+task_terminated = MPI2_IOCSTATUS_SCSI_TASK_TERMINATED
 
 -- what the reply to a command says: that the disk isn't there, that the command was stopped, or anything else,
 -- which is a result

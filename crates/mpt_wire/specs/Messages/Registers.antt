@@ -3,8 +3,8 @@
 use Rattle.std.specs.Prelude.{◌≡◌, ℕ, ◌+◌, ◌-◌, ◌*◌, ◌/◌, ◌%◌, ◌^◌, ◌<◌, ◌==◌, ◌&&◌, ◌||◌, Bool, true, false, bit_and, nat_lt, if◌then◌else◌, List, [], ◌∷◌, ◌++◌, drop, Option, Some, None}
 use Rattle.std.specs.Bool.{MatchBool}
 use Rattle.mpi_doorbell.specs.declared.registers.TheConstants.{DOORBELL, HOST_DIAGNOSTIC, HOST_INTERRUPT_STATUS, REPLY_POST_HOST_INDEX, DOORBELL_USED, DOORBELL_FUNCTION_SHIFT, DOORBELL_ADD_DWORDS_SHIFT, FUNCTION_HANDSHAKE, FUNCTION_MESSAGE_UNIT_RESET, DIAG_RESET_ADAPTER, IOC2SYS_DB_STATUS}
-use Rattle.mpi_rings.specs.declared.free_ring.TheConstants.{FREE_RING_ENTRIES}
-use Rattle.mpi_rings.specs.declared.post_ring.TheConstants.{POST_RING_ENTRIES}
+use Rattle.mpi_names.specs.declared.memory.TheConstants.{FREE_RING_ENTRIES}
+use Rattle.mpi_names.specs.declared.memory.TheConstants.{POST_RING_ENTRIES}
 use Rattle.mpt_trace.specs.declared.lane.LaneName.{LaneName}
 use Rattle.mpt_trace.specs.declared.lane.LaneName.TheVariants as lane
 use Rattle.mpt_trace.specs.declared.item.Item.TheVariants as item

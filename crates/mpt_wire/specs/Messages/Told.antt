@@ -2,6 +2,7 @@
 -- or a target reset ended.
 use Rattle.std.specs.Prelude.{◌≡◌, ℕ, ◌==◌, ◌&&◌, true, nat_lt, bit_and, if◌then◌else◌, List, Option, Some, None}
 use Rattle.std.specs.List.{list_any}
+use Rattle.mpi_names.specs.declared.ioc_status.TheConstants.{MPI2_IOCSTATUS_MASK}
 use Rattle.mpt_trace.specs.declared.item.Item.TheVariants as item
 use Rattle.mpt_trace.specs.declared.item.Down.TheVariants as down
 use Rattle.mpt_trace.specs.declared.item.Up.{Up}
@@ -62,7 +63,7 @@ IsSomeOf (Some y) x = y ≡ x
 
 -- the status without its flag for log info
 abbrev pub status_under_mask : List ℕ → ℕ
-status_under_mask frame = bit_and (ioc_status_in frame) 0x7fff
+status_under_mask frame = bit_and (ioc_status_in frame) MPI2_IOCSTATUS_MASK
 
 -- an abort stopped its command where its reply has SUCCESS and a count above 0
 abbrev pub abort_outcome : List ℕ → AbortOutcome

@@ -1,6 +1,7 @@
 -- Identifiers on the wire: each goes its cycle, is of its request's class, and is the least free one where a submission is accepted.
 use Rattle.std.specs.Prelude.{◌≡◌, ◌≢◌, ℕ, ◌==◌, ◌≤◌, if◌then◌else◌, List, Option, Some, None}
 use Rattle.std.specs.Bool.{MatchBool}
+use Rattle.mpi_names.specs.declared.smid.TheConstants.{FIRST_HIGH_PRIORITY_SMID, FIRST_INTERNAL_SMID, FIRST_SCSI_IO_SMID, LAST_HIGH_PRIORITY_SMID, LAST_INTERNAL_SMID, LAST_SCSI_IO_SMID}
 use Rattle.mpi_rings.specs.declared.request_descriptor.PostKind.{PostKind}
 use Rattle.mpi_rings.specs.declared.request_descriptor.PostKind.TheVariants as post
 use Rattle.mpt_messages.specs.Function.{byte_of}
@@ -42,14 +43,14 @@ IdentifiersPass t = (s : ℕ) → s ≢ 0 → TurnsPass (smid_stage s) t
 
 -- the first and the last identifier of a kind of post
 abbrev pub first_smid : PostKind → ℕ
-first_smid post.ScsiIo = 1
-first_smid post.HighPriority = 257
-first_smid post.Default = 265
+first_smid post.ScsiIo = FIRST_SCSI_IO_SMID
+first_smid post.HighPriority = FIRST_HIGH_PRIORITY_SMID
+first_smid post.Default = FIRST_INTERNAL_SMID
 
 abbrev pub last_smid : PostKind → ℕ
-last_smid post.ScsiIo = 256
-last_smid post.HighPriority = 264
-last_smid post.Default = 280
+last_smid post.ScsiIo = LAST_SCSI_IO_SMID
+last_smid post.HighPriority = LAST_HIGH_PRIORITY_SMID
+last_smid post.Default = LAST_INTERNAL_SMID
 
 -- the identifier is of the class of the descriptor's kind; a descriptor with unknown flags has none
 abbrev pub IsOfKind : Option PostKind → ℕ → Type 0

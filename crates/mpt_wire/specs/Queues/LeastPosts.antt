@@ -4,6 +4,7 @@
 -- the trace, and the host's pool isn't, so that the rule is one of the trace and not one of the host told again.
 use Rattle.std.specs.Prelude.{◌≡◌, ℕ, zero, suc, ◌+◌, ◌-◌, ◌==◌, ◌&&◌, not, nat_le, Bool, true, false, if◌then◌else◌, List, [], ◌∷◌, ◌++◌, drop, filter, Option, Some, None}
 use Rattle.std.specs.Bool.{MatchBool}
+use Rattle.mpi_names.specs.declared.handle.TheConstants.{FIRST_DISK_HANDLE, LAST_DISK_HANDLE}
 use Rattle.mpi_rings.specs.declared.request_descriptor.PostKind.{PostKind}
 use Rattle.mpi_rings.specs.declared.request_descriptor.PostKind.TheVariants as post
 use Rattle.mpt_messages.specs.Function.{byte_of}
@@ -94,7 +95,7 @@ makes_internal want g = record g { internal = makes post.Default want g.internal
 
 -- the handles of disks: mpi2 leaves them to the controller, and this profile has 0x0009 to 0x0048
 abbrev pub is_disk_handle : ℕ → Bool
-is_disk_handle h = nat_le 0x0009 h && nat_le h 0x0048
+is_disk_handle h = nat_le FIRST_DISK_HANDLE h && nat_le h LAST_DISK_HANDLE
 
 -- a disk that departs is reset, and its page isn't read any more
 abbrev pub departs : ℕ → Giving → Giving

@@ -1,6 +1,7 @@
 -- Several reply queues: on which lane a reply comes, and the mark of each reset on each lane above up.
 use Rattle.std.specs.Prelude.{◌≡◌, ℕ, ◌+◌, ◌-◌, ◌%◌, ◌^◌, ◌<◌, ◌≤◌, Bool, true, false, ◌&&◌, ◌==◌, nat_le, if◌then◌else◌, Option, Some, None, is_some, List, [], ◌∷◌, ◌++◌}
 use Rattle.std.specs.List.{count_by}
+use Rattle.mpi_names.specs.declared.smid.TheConstants.{FIRST_SCSI_IO_SMID, LAST_SCSI_IO_SMID}
 use Rattle.mpt_trace.specs.declared.lane.LaneName.{LaneName}
 use Rattle.mpt_trace.specs.declared.lane.LaneName.TheVariants as lane
 use Rattle.mpt_trace.specs.declared.item.Item.{Item}
@@ -20,7 +21,7 @@ queue_lane i = if i == 0 then lane.Up else lane.UpOn i
 
 -- the identifier is one of a SCSI IO
 abbrev pub is_command : ℕ → Bool
-is_command s = nat_le 1 s && nat_le s 256
+is_command s = nat_le FIRST_SCSI_IO_SMID s && nat_le s LAST_SCSI_IO_SMID
 
 -- the reply queue of a reply that names s
 abbrev pub reply_queue_of : ℕ → ℕ → ℕ
