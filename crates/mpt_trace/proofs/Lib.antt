@@ -23,6 +23,7 @@ pub mod WireCycles
 pub mod PathExamples
 pub mod FitsExamples
 pub mod TieExamples
+pub mod ToldExamples
 pub mod LeastFree
 pub mod Lasting
 pub mod Bindings
