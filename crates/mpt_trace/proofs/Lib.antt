@@ -50,3 +50,8 @@ pub mod PlugExamples
 pub mod MarkExamples
 pub mod MessageExamples
 pub mod EndExamples
+pub mod TiesOnWire
+pub mod PlainExamples
+pub mod MessageTies
+pub mod ToldTies
+pub mod RingTies

@@ -32,6 +32,7 @@ pub mod Told
 pub mod Registers
 pub mod LeastPosts
 pub mod FitsTies
+pub mod ToldInPlace
 pub mod FitsPlan
 pub mod Reports
 pub mod Ahead
@@ -60,3 +61,14 @@ pub mod Marks
 pub mod Messages
 pub mod DoorbellWords
 pub mod HandlesOnWire
+pub mod CommandPosts
+pub mod LastPosts
+pub mod Attached
+pub mod EventsTold
+pub mod PagesTold
+pub mod Acknowledged
+pub mod HandlesAimed
+pub mod ToldNext
+pub mod RemovalsUnbind
+pub mod OpeningWrites
+pub mod TiesOnWire
