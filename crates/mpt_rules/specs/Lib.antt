@@ -49,4 +49,9 @@ pub mod Settings
 pub mod PlaceCounts
 pub mod Replays
 pub mod Sessions
+pub mod PlacesTold
+pub mod RegisterValues
+pub mod Summaries
+pub mod TurnsDone
+pub mod SessionParts
 pub mod Law

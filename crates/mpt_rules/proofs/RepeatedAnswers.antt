@@ -1,0 +1,24 @@
+-- Traces in which a number is accepted or answered too often, or is unanswered at a reset's end.
+use Rattle.std.proofs.Common.{◌≡◌, ℕ, ◌≤◌, [], ◌∷◌, refl, arith}
+use Rattle.mpt_trace.specs.declared.outcome.Outcome.TheVariants as outcome
+use Rattle.mpt_trace.specs.declared.entry.Entry.TheVariants as entry
+use Rattle.mpt_rules.specs.Law.{AnsweredAtMostOnce}
+use Rattle.mpt_rules.specs.Settings.{Setting}
+
+abbrev setting : Setting
+setting = record { disks = []; phys = []; queues = 1 }
+
+two_one : ◌≤◌ 2 1 → ⊥
+two_one e = omega arith
+
+one_none : ◌≡◌ {A = ℕ} 1 0 → ⊥
+one_none e = omega arith
+
+accepted_twice : AnsweredAtMostOnce setting (entry.Accept 1 5 1 ∷ entry.Accept 1 5 1 ∷ []) → ⊥
+accepted_twice p = two_one (p.accepted 1)
+
+answered_twice : AnsweredAtMostOnce setting (entry.Answer 1 outcome.Gone ∷ entry.Answer 1 outcome.Reset ∷ []) → ⊥
+answered_twice p = two_one (p.answered 1)
+
+unanswered_at_reset : AnsweredAtMostOnce setting (entry.Accept 1 5 1 ∷ entry.ResetDone ∷ []) → ⊥
+unanswered_at_reset p = one_none (p.at_reset (entry.Accept 1 5 1 ∷ []) [] refl 1)

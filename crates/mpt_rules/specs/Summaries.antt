@@ -1,0 +1,74 @@
+-- The summary of a world and of the trace that leads to it, and the reports of a schedule.
+use Rattle.std.specs.Prelude.{ℕ, ◌||◌, Bool, true, false, List, count_by, map}
+use Rattle.std.specs.FinMap as finmap
+use Rattle.removal.specs.declared.phase.Phase.{Phase}
+use Rattle.removal.specs.declared.phase.Phase.TheVariants as phase
+use Rattle.mpt_trace.specs.declared.entry.Entry.{Entry}
+use Rattle.mpt_trace.specs.declared.summary.Summary.{Summary}
+use Rattle.mpt_trace.specs.Lines.{Line}
+use Rattle.mpt_trace.specs.MachineState.{Machine}
+use Rattle.mpt_trace.specs.Reports.{is_done, is_gone, is_refused, is_reset, is_terminated, last_machine, line_of, ready_disks, report, short_report}
+use Rattle.mpt_rules.specs.Drain.{world_quiet}
+use Rattle.mpt_rules.specs.Outcome.{Outcome}
+use Rattle.mpt_rules.specs.Replays.{replays}
+use Rattle.mpt_rules.specs.Settings.{Setting, first_world}
+use Rattle.mpt_rules.specs.World.{World}
+
+-- ---- the handles by their phases
+
+abbrev pub is_reading : Phase → Bool
+is_reading (phase.Reading smid) = true
+is_reading _ = false
+
+-- one of the three phases in which a handle waits for an identifier
+abbrev pub is_waiting : Phase → Bool
+is_waiting phase.WaitRead = true
+is_waiting phase.WaitHigh = true
+is_waiting phase.WaitInternal = true
+is_waiting _ = false
+
+abbrev pub is_resetting : Phase → Bool
+is_resetting (phase.Resetting smid) = true
+is_resetting _ = false
+
+abbrev pub is_removing : Phase → Bool
+is_removing (phase.Removing smid) = true
+is_removing _ = false
+
+-- how many handles of the host pass
+abbrev pub handles : (Phase → Bool) → List Phase → ℕ
+handles test phases = count_by test phases
+
+-- ---- the summary
+
+-- the summary where the host has these phases, and all is quiet or not: the rest is told by the trace and by the machine
+-- that it leaves
+abbrev pub summary_with : Machine → List Phase → Bool → List Entry → Summary
+summary_with m phases quiet t = record {
+  disks = map (line_of m) m.addresses;
+  done = count_by is_done t;
+  gone = count_by is_gone t;
+  terminated = count_by is_terminated t;
+  reset = count_by is_reset t;
+  refused = count_by is_refused t;
+  unanswered = finmap.len m.requests;
+  reading = handles is_reading phases;
+  ready = ready_disks m;
+  waiting = handles is_waiting phases;
+  resetting = handles is_resetting phases;
+  removing = handles is_removing phases;
+  state = m.mode;
+  quiet = quiet;
+}
+
+-- the summary of a world that this trace leads to
+abbrev pub summary_of : Setting → Outcome World → Summary
+summary_of s o = summary_with (last_machine s.disks o.entries) o.part.host.phases (world_quiet o.part) o.entries
+
+-- ---- the reports of a schedule with these lines
+
+abbrev pub replay_report : Setting → List Line → List ℕ
+replay_report s lines = report (replays (first_world s) lines).entries (summary_of s (replays (first_world s) lines))
+
+abbrev pub replay_short : Setting → List Line → List ℕ
+replay_short s lines = short_report (replays (first_world s) lines).entries (summary_of s (replays (first_world s) lines))
