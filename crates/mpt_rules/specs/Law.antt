@@ -42,7 +42,7 @@ use Rattle.mpt_rules.specs.OpenCases.{IocCase}
 use Rattle.mpt_rules.specs.PlacesTold.{FramePlaceIsTold, SmidPlaceIsTold}
 use Rattle.mpt_rules.specs.RegisterValues.{ValuesAreRegisters}
 use Rattle.mpt_rules.specs.SessionParts.{Follows, IsMerged, IsStarted, NoneFaults, NoneIsStrange, TakesAreLater, ioc_behind}
-use Rattle.mpt_rules.specs.Summaries.{summary_of}
+use Rattle.mpt_rules.specs.Summaries.{session_summary, summary_of}
 use Rattle.mpt_rules.specs.TurnsDone.{does_turns}
 use Rattle.mpt_rules.specs.World.{World, up_on}
 use Rattle.mpt_rules.specs.Cases.{Case, Told, Chosen, HostLooks, HostStops, FabricCalms, run, trace}
@@ -349,3 +349,7 @@ pub record IsAnswered (s : Setting) (x : Session) : Type 0 where
 abbrev pub QuietSessionsAreAnswered : Type 0
 QuietSessionsAreAnswered =
     (s : Setting) (x : Session) → IsSetting s → IsSession s x → LanesInOrder (session_trace s x) → EndsQuiet s x → IsAnswered s x
+
+-- the summary that ends a session's report is one of its trace
+abbrev pub SessionSummariesTell : Type 0
+SessionSummariesTell = (s : Setting) (x : Session) → SummaryOf s.disks (session_trace s x) (session_summary s x)

@@ -1,4 +1,4 @@
--- The summary of a world and of the trace that leads to it, and the reports of a schedule.
+-- The summary of a world and of the trace that leads to it, and the reports of a schedule and of a session.
 use Rattle.std.specs.Prelude.{ℕ, ◌||◌, Bool, true, false, List, count_by, map}
 use Rattle.std.specs.FinMap as finmap
 use Rattle.removal.specs.declared.phase.Phase.{Phase}
@@ -11,6 +11,7 @@ use Rattle.mpt_trace.specs.Reports.{is_done, is_gone, is_refused, is_reset, is_t
 use Rattle.mpt_rules.specs.Drain.{world_quiet}
 use Rattle.mpt_rules.specs.Outcome.{Outcome}
 use Rattle.mpt_rules.specs.Replays.{replays}
+use Rattle.mpt_rules.specs.Sessions.{Session, last_host, session_trace}
 use Rattle.mpt_rules.specs.Settings.{Setting, first_world}
 use Rattle.mpt_rules.specs.World.{World}
 
@@ -72,3 +73,14 @@ replay_report s lines = report (replays (first_world s) lines).entries (summary_
 
 abbrev pub replay_short : Setting → List Line → List ℕ
 replay_short s lines = short_report (replays (first_world s) lines).entries (summary_of s (replays (first_world s) lines))
+
+-- ---- and of a session that ends quiet
+
+abbrev pub session_summary : Setting → Session → Summary
+session_summary s x = summary_with (last_machine s.disks (session_trace s x)) (last_host s x).phases true (session_trace s x)
+
+abbrev pub session_report : Setting → Session → List ℕ
+session_report s x = report (session_trace s x) (session_summary s x)
+
+abbrev pub session_short : Setting → Session → List ℕ
+session_short s x = short_report (session_trace s x) (session_summary s x)
