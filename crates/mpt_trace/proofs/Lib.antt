@@ -50,6 +50,8 @@ pub mod PlugExamples
 pub mod MarkExamples
 pub mod MessageExamples
 pub mod EndExamples
+pub mod PagesTold
+pub mod RemovalsUnbind
 pub mod TiesOnWire
 pub mod PlainExamples
 pub mod MessageTies

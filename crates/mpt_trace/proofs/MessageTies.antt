@@ -151,7 +151,7 @@ page_bytes = layout_bytes device_page0_layout (device_page0_values (disk_page 9 
 page_told : PagesAreOfDisks (plugs ++ posts 265 (ask.PageRead 265 9) ∷ says 265 (reply.Config 1 0x12 0) page_bytes ∷ [])
 unfolding field config_reply_layout config_reply_values
 page_told =
-    (tt, (tt, (tt, (record { handle = 9; disk = record { address = 5; place = record { expander = 0; phy = 3 } }; asked = refl; bound = refl; bytes = refl }, tt))))
+    (tt, (tt, (tt, (record { handle = 9; disk = record { plug = record { address = 5; number = 1 }; place = record { expander = 0; phy = 3 } }; asked = refl; bound = refl; bytes = refl }, tt))))
 
 -- a read that succeeds without a page
 no_page : PagesAreOfDisks (plugs ++ posts 265 (ask.PageRead 265 9) ∷ says 265 (reply.Config 1 0x12 0) [] ∷ []) → ⊥

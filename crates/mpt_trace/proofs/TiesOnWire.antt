@@ -26,6 +26,8 @@ use Rattle.mpt_trace.specs.HandlesAimed.{IsTold, NamesHandles, NamesKnown, Names
 use Rattle.mpt_trace.specs.LastPosts.{AnswersLast, AnswersPost, IsLastPost, LastPostAsks, RepliesAnswerPass, RepliesAnswerPosts, frame_posted, is_posted, last_post_by, last_post_next}
 use Rattle.mpt_trace.specs.TiesOnWire.{TiesOnWire, TiesPass}
 use Rattle.mpt_trace.proofs.Lasting.{asked_in, lasts}
+use Rattle.mpt_trace.proofs.PagesTold.{pages_are_of_plugs}
+use Rattle.mpt_trace.proofs.RemovalsUnbind.{successes_unbind}
 
 -- what is asked where a test is passed
 asked_if : {P : Type 0} (b : Bool) → MatchBool b P (Unit {0}) → b ≡ true → P
@@ -136,11 +138,11 @@ ties_on_wire phys t p =
       payloads = p.payloads;
       replies = λ s a. replies_answer_posts s t (p.replies s a);
       events = p.events;
-      pages = p.pages;
+      pages = pages_are_of_plugs t p.pages;
       acknowledged = p.acknowledged;
       known = p.known;
       handles = posts_name_told t p.handles;
       told = p.told;
-      removals = p.removals;
+      removals = λ s a. successes_unbind s t (p.removals s a);
       openings = p.openings;
     }

@@ -8,8 +8,8 @@ use Rattle.mpt_trace.specs.EventsTold.{EventsAreOfChanges}
 use Rattle.mpt_trace.specs.HandlesAimed.{NamingPass, PostsNameTold}
 use Rattle.mpt_trace.specs.LastPosts.{RepliesAnswerPass, RepliesAnswerPosts}
 use Rattle.mpt_trace.specs.OpeningWrites.{OpeningsAreBare}
-use Rattle.mpt_trace.specs.PagesTold.{PagesAreOfDisks}
-use Rattle.mpt_trace.specs.RemovalsUnbind.{RemovalsUnbind}
+use Rattle.mpt_trace.specs.PagesTold.{PagesAreOfDisks, PagesAreOfPlugs}
+use Rattle.mpt_trace.specs.RemovalsUnbind.{RemovalsUnbind, SuccessesUnbind}
 use Rattle.mpt_trace.specs.ToldNext.{RepliesAreToldNext}
 
 -- the messages of a trace, with expanders that have so many phys
@@ -18,12 +18,12 @@ pub record TiesOnWire (phys : List ℕ) (t : List Entry) : Type 0 where
   pub payloads : OnlyCommandsHaveData t
   pub replies : (s : ℕ) → 1 ≤ s → RepliesAnswerPosts s t
   pub events : EventsAreOfChanges phys t
-  pub pages : PagesAreOfDisks t
+  pub pages : PagesAreOfPlugs t
   pub acknowledged : EventsAreAcknowledged t
   pub known : AcksSucceed t
   pub handles : PostsNameTold t
   pub told : RepliesAreToldNext t
-  pub removals : (s : ℕ) → 1 ≤ s → RemovalsUnbind s t
+  pub removals : (s : ℕ) → 1 ≤ s → SuccessesUnbind s t
   pub openings : OpeningsAreBare t
 
 -- the same as rules that go over the entries
