@@ -5,7 +5,7 @@ use Rattle.mpt_trace.specs.declared.outcome.Outcome.TheVariants as outcome
 use Rattle.mpt_trace.specs.declared.entry.Entry.{Entry}
 use Rattle.mpt_trace.specs.declared.entry.Entry.TheVariants as entry
 use Rattle.mpt_rules.specs.Law.{AnsweredAtMostOnce}
-use Rattle.mpt_rules.specs.Settings.{Setting}
+use Rattle.mpt_rules.specs.World.Settings.{Setting}
 
 abbrev setting : Setting
 setting = record { disks = []; phys = []; queues = 1 }

@@ -9,12 +9,12 @@ use Rattle.mpt_trace.specs.declared.item.Back.TheVariants as back
 use Rattle.mpt_trace.specs.declared.lane.LaneName.TheVariants as lane
 use Rattle.mpt_trace.specs.declared.entry.Entry.{Entry}
 use Rattle.mpt_trace.specs.declared.entry.Entry.TheVariants as entry
-use Rattle.mpt_trace.specs.Passes.{Passes}
+use Rattle.mpt_wire.specs.Walks.Passes.{Passes}
 use Rattle.mpt_rules.specs.declared.said.Said.{Said}
 use Rattle.mpt_rules.specs.declared.said.Said.TheVariants as said
-use Rattle.mpt_rules.specs.Ioc.{takes_back, takes_down}
-use Rattle.mpt_rules.specs.IocParts.{Ioc, new_ioc}
-use Rattle.mpt_rules.specs.IocReplies.{outbox_of}
+use Rattle.mpt_rules.specs.Ioc.Takes.{takes_back, takes_down}
+use Rattle.mpt_rules.specs.Ioc.Parts.{Ioc, new_ioc}
+use Rattle.mpt_rules.specs.Ioc.Replies.{outbox_of}
 
 -- a controller to which nothing but register accesses and links come: they are done by the controller's rules, and the
 -- values of its reads wait in its outbox

@@ -7,16 +7,16 @@ use Rattle.mpt_trace.specs.declared.input.Input.TheVariants as input
 use Rattle.mpt_trace.specs.declared.item.Item.{Item}
 use Rattle.mpt_trace.specs.declared.item.Item.TheVariants as item
 use Rattle.mpt_trace.specs.declared.lane.LaneName.{LaneName}
-use Rattle.mpt_trace.specs.Ahead.{is_of}
-use Rattle.mpt_trace.specs.FitsPlan.{AsksAreDone, FabricDoes, HostDoesAsks, NoMoreAsks, Order, TellsPut, asks_of}
-use Rattle.mpt_rules.specs.FabricParts.{new_fabric}
-use Rattle.mpt_rules.specs.Host.{takes_up}
-use Rattle.mpt_rules.specs.HostParts.{Host, new_host}
-use Rattle.mpt_rules.specs.IocParts.{Ioc, new_ioc}
-use Rattle.mpt_rules.specs.Journals.{At, Block, Of, Row, TakesFollow, all_merged, fabric_journal, host_journal, is_not_after, puts_of, takes_of}
-use Rattle.mpt_rules.specs.OpenCases.{HostCase, IocCase, PutsAsk, SubmitterCase, TakesTell, host_does, ioc_does}
-use Rattle.mpt_rules.specs.Sessions.{Session, journals, session_trace}
-use Rattle.mpt_rules.specs.Settings.{Setting}
+use Rattle.mpt_wire.specs.Walks.Ahead.{is_of}
+use Rattle.mpt_wire.specs.Fits.Plan.{AsksAreDone, FabricDoes, HostDoesAsks, NoMoreAsks, Order, TellsPut, asks_of}
+use Rattle.mpt_rules.specs.Fabric.Parts.{new_fabric}
+use Rattle.mpt_rules.specs.Host.Takes.{takes_up}
+use Rattle.mpt_rules.specs.Host.Parts.{Host, new_host}
+use Rattle.mpt_rules.specs.Ioc.Parts.{Ioc, new_ioc}
+use Rattle.mpt_rules.specs.Session.Journals.{At, Block, Of, Row, TakesFollow, all_merged, fabric_journal, host_journal, is_not_after, puts_of, takes_of}
+use Rattle.mpt_rules.specs.Session.OpenCases.{HostCase, IocCase, PutsAsk, SubmitterCase, TakesTell, host_does, ioc_does}
+use Rattle.mpt_rules.specs.Session.Sessions.{Session, journals, session_trace}
+use Rattle.mpt_rules.specs.World.Settings.{Setting}
 
 -- ---- a party by itself
 

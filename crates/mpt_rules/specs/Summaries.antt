@@ -5,15 +5,15 @@ use Rattle.removal.specs.declared.phase.Phase.{Phase}
 use Rattle.removal.specs.declared.phase.Phase.TheVariants as phase
 use Rattle.mpt_trace.specs.declared.entry.Entry.{Entry}
 use Rattle.mpt_trace.specs.declared.summary.Summary.{Summary}
-use Rattle.mpt_trace.specs.Lines.{Line}
-use Rattle.mpt_trace.specs.MachineState.{Machine}
-use Rattle.mpt_trace.specs.Reports.{is_done, is_gone, is_refused, is_reset, is_terminated, last_machine, line_of, ready_disks, report, short_report}
-use Rattle.mpt_rules.specs.Drain.{world_quiet}
-use Rattle.mpt_rules.specs.Outcome.{Outcome}
-use Rattle.mpt_rules.specs.Replays.{replays}
-use Rattle.mpt_rules.specs.Sessions.{Session, last_host, session_trace}
-use Rattle.mpt_rules.specs.Settings.{Setting, first_world}
-use Rattle.mpt_rules.specs.World.{World}
+use Rattle.mpt_wire.specs.Fits.Lines.{Line}
+use Rattle.mpt_wire.specs.Machine.State.{Machine}
+use Rattle.mpt_wire.specs.Machine.Reports.{is_done, is_gone_answer, is_refusal, is_reset_answer, is_terminated, last_machine, line_of, ready_disks, report, short_report}
+use Rattle.mpt_rules.specs.World.Drain.{world_quiet}
+use Rattle.mpt_rules.specs.Outcome.{Happening}
+use Rattle.mpt_rules.specs.World.Replays.{replays}
+use Rattle.mpt_rules.specs.Session.Sessions.{Session, last_host, session_trace}
+use Rattle.mpt_rules.specs.World.Settings.{Setting, first_world}
+use Rattle.mpt_rules.specs.World.State.{World}
 
 -- ---- the handles by their phases
 
@@ -48,10 +48,10 @@ abbrev pub summary_with : Machine → List Phase → Bool → List Entry → Sum
 summary_with m phases quiet t = record {
   disks = map (line_of m) m.addresses;
   done = count_by is_done t;
-  gone = count_by is_gone t;
+  gone = count_by is_gone_answer t;
   terminated = count_by is_terminated t;
-  reset = count_by is_reset t;
-  refused = count_by is_refused t;
+  reset = count_by is_reset_answer t;
+  refused = count_by is_refusal t;
   unanswered = finmap.len m.requests;
   reading = handles is_reading phases;
   ready = ready_disks m;
@@ -63,7 +63,7 @@ summary_with m phases quiet t = record {
 }
 
 -- the summary of a world that this trace leads to
-abbrev pub summary_of : Setting → Outcome World → Summary
+abbrev pub summary_of : Setting → Happening World → Summary
 summary_of s o = summary_with (last_machine s.disks o.entries) o.part.host.phases (world_quiet o.part) o.entries
 
 -- ---- the reports of a schedule with these lines
