@@ -9,7 +9,7 @@ use Rattle.mpt_trace.specs.declared.item.Up.TheVariants as up
 use Rattle.mpt_trace.specs.declared.item.Back.TheVariants as back
 use Rattle.mpt_trace.specs.declared.entry.Entry.{Entry}
 use Rattle.mpt_trace.specs.declared.entry.Entry.TheVariants as entry
-use Rattle.mpt_rules.specs.RegisterValues.{ValuesAreRegisters}
+use Rattle.mpt_rules.specs.World.RegisterValues.{ValuesAreRegisters}
 
 apart : (a b : ℕ) → (a == b) ≡ false → a ≡ b → ⊥
 apart a b n e = grind (arith, common_steps)

@@ -29,8 +29,8 @@ use Rattle.mpt_wire.specs.Paths.TerminationCounts.{AreCounted}
 use Rattle.mpt_wire.specs.Paths.Stops.{StopsAreTold}
 use Rattle.mpt_wire.specs.Machine.ReadyDisks.{ReadyArePlugged}
 use Rattle.mpt_wire.specs.Machine.Reports.{SummaryOf}
-use Rattle.mpt_wire.specs.TiesOnWire.{TiesOnWire}
-use Rattle.mpt_wire.specs.ToldInPlace.{TellsInPlace}
+use Rattle.mpt_wire.specs.Ties.OnWire.{TiesOnWire}
+use Rattle.mpt_wire.specs.Ties.ToldInPlace.{TellsInPlace}
 use Rattle.mpt_wire.specs.Machine.View.{ViewIsRun, machine_after}
 use Rattle.mpt_rules.specs.Outcome.{Happening}
 use Rattle.mpt_rules.specs.World.Replays.{replays}
@@ -39,11 +39,11 @@ use Rattle.mpt_rules.specs.Host.Takes.{takes_up}
 use Rattle.mpt_rules.specs.Host.Parts.{new_host}
 use Rattle.mpt_rules.specs.Ioc.Parts.{Ioc, new_ioc}
 use Rattle.mpt_rules.specs.Session.OpenCases.{IocCase}
-use Rattle.mpt_rules.specs.PlacesTold.{FramePlaceIsTold, SmidPlaceIsTold}
-use Rattle.mpt_rules.specs.RegisterValues.{ValuesAreRegisters}
-use Rattle.mpt_rules.specs.SessionParts.{Follows, IsMerged, IsStarted, NoneFaults, NoneIsStrange, TakesAreLater, ioc_behind}
-use Rattle.mpt_rules.specs.Summaries.{session_summary, summary_of}
-use Rattle.mpt_rules.specs.TurnsDone.{does_turns}
+use Rattle.mpt_rules.specs.World.PlacesTold.{FramePlaceIsTold, SmidPlaceIsTold}
+use Rattle.mpt_rules.specs.World.RegisterValues.{ValuesAreRegisters}
+use Rattle.mpt_rules.specs.Session.Parts.{Follows, IsMerged, IsStarted, NoneFaults, NoneIsStrange, TakesAreLater, ioc_behind}
+use Rattle.mpt_rules.specs.World.Summaries.{session_summary, summary_of}
+use Rattle.mpt_rules.specs.World.TurnsDone.{does_turns}
 use Rattle.mpt_rules.specs.World.State.{World, up_on}
 use Rattle.mpt_rules.specs.World.Cases.{Case, Told, Chosen, HostLooks, HostStops, FabricCalms, run, trace}
 use Rattle.mpt_rules.specs.World.Drain.{world_quiet, drains}

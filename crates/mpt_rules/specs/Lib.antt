@@ -4,10 +4,5 @@ pub mod Host
 pub mod Ioc
 pub mod Law
 pub mod Outcome
-pub mod PlacesTold
-pub mod RegisterValues
 pub mod Session
-pub mod SessionParts
-pub mod Summaries
-pub mod TurnsDone
 pub mod World

@@ -42,13 +42,13 @@ use Rattle.mpt_trace.specs.declared.entry.Entry.{Entry}
 use Rattle.mpt_trace.specs.declared.entry.Entry.TheVariants as entry
 use Rattle.mpt_trace.specs.Command.{command_named}
 use Rattle.mpt_wire.specs.Messages.Fields.{address_descriptor, changes_from, post_descriptor, reply_frame_address}
-use Rattle.mpt_wire.specs.Acknowledged.{AcksSucceed, EventsAreAcknowledged}
-use Rattle.mpt_wire.specs.CommandPosts.{CommandPostsPass, OnlyCommandsHaveData, command_message}
-use Rattle.mpt_wire.specs.EventsTold.{EventsAreOfChanges}
-use Rattle.mpt_wire.specs.HandlesAimed.{NamesKnown, NamingPass, nothing_named}
-use Rattle.mpt_wire.specs.LastPosts.{Answers, RepliesAnswerPass}
-use Rattle.mpt_wire.specs.PagesTold.{PagesAreOfDisks}
-use Rattle.mpt_wire.specs.RemovalsUnbind.{RemovalsUnbind}
+use Rattle.mpt_wire.specs.Ties.Acknowledged.{AcksSucceed, EventsAreAcknowledged}
+use Rattle.mpt_wire.specs.Ties.CommandPosts.{CommandPostsPass, OnlyCommandsHaveData, command_message}
+use Rattle.mpt_wire.specs.Ties.EventsTold.{EventsAreOfChanges}
+use Rattle.mpt_wire.specs.Ties.HandlesAimed.{NamesKnown, NamingPass, nothing_named}
+use Rattle.mpt_wire.specs.Ties.LastPosts.{Answers, RepliesAnswerPass}
+use Rattle.mpt_wire.specs.Ties.PagesTold.{PagesAreOfDisks}
+use Rattle.mpt_wire.specs.Ties.RemovalsUnbind.{RemovalsUnbind}
 
 -- two numbers that differ
 apart : (a b : ℕ) → (a == b) ≡ false → a ≡ b → ⊥

@@ -12,13 +12,13 @@ use Rattle.mpt_trace.specs.declared.item.Up.TheVariants as up
 use Rattle.mpt_trace.specs.declared.item.Back.TheVariants as back
 use Rattle.mpt_trace.specs.declared.entry.Entry.{Entry}
 use Rattle.mpt_trace.specs.declared.entry.Entry.TheVariants as entry
-use Rattle.mpt_wire.specs.Attached.{Attachment, Plugged, WasPluggedAt, attachment_of, plugged_in}
+use Rattle.mpt_wire.specs.Ties.Attached.{Attachment, Plugged, WasPluggedAt, attachment_of, plugged_in}
 use Rattle.mpt_wire.specs.Handles.Bindings.{BindsTo, Plug, ends_binding}
 use Rattle.mpt_wire.specs.Messages.Fields.{smid_in}
-use Rattle.mpt_wire.specs.LastPosts.{IsLastPost, frame_posted, is_posted}
+use Rattle.mpt_wire.specs.Ties.LastPosts.{IsLastPost, frame_posted, is_posted}
 use Rattle.mpt_wire.specs.Walks.Lasting.{never}
 use Rattle.mpt_wire.specs.Machine.State.{Place, put_at}
-use Rattle.mpt_wire.specs.PagesTold.{IsPageAsked, IsPageOfPlug, PageReadAsks, PageReads, PagesAreOfDisks, PagesAreOfPlugs, is_read_reply, no_page_reads, page_reads_next}
+use Rattle.mpt_wire.specs.Ties.PagesTold.{IsPageAsked, IsPageOfPlug, PageReadAsks, PageReads, PagesAreOfDisks, PagesAreOfPlugs, is_read_reply, no_page_reads, page_reads_next}
 use Rattle.mpt_wire.specs.Walks.Passes.{state_after}
 use Rattle.mpt_wire.proofs.Lasting.{MadeAt, asked_in, lasts, made_at}
 

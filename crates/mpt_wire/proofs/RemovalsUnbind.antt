@@ -12,7 +12,7 @@ use Rattle.mpt_wire.specs.Handles.Names.{Aimed, removal_posted, reply_smid_in}
 use Rattle.mpt_wire.specs.Messages.Naming.{success}
 use Rattle.mpt_wire.specs.Walks.Passes.{state_after}
 use Rattle.mpt_wire.specs.Handles.Removals.{is_same_number, removal_taken}
-use Rattle.mpt_wire.specs.RemovalsUnbind.{IsTaken, NoRemoval, Removal, RemovalAsks, RemovalsUnbind, SuccessesUnbind, Taken, Unbound, UnbindsBy, ends_taken, is_removal_of, removal_by, removal_next, removal_over, unbinds, unbound_by}
+use Rattle.mpt_wire.specs.Ties.RemovalsUnbind.{IsTaken, NoRemoval, Removal, RemovalAsks, RemovalsUnbind, SuccessesUnbind, Taken, Unbound, UnbindsBy, ends_taken, is_removal_of, removal_by, removal_next, removal_over, unbinds, unbound_by}
 use Rattle.mpt_wire.proofs.Lasting.{asked_in, holds, left_not, right_not}
 
 abbrev Stands : ℕ → Removal → Type 0

@@ -21,10 +21,10 @@ use Rattle.mpt_wire.specs.Walks.Passes.{Passes, state_after}
 use Rattle.mpt_wire.specs.Paths.Commands.{Known, Live, known_next, nothing_known}
 use Rattle.mpt_wire.specs.Paths.Replies.{open_under}
 use Rattle.mpt_wire.specs.Handles.Tasks.{IsPostedTo, handle_posted}
-use Rattle.mpt_wire.specs.CommandPosts.{CommandPostAsks, CommandPostsPass, CommandsArePosted, PostsCommand, PostsOpen}
-use Rattle.mpt_wire.specs.HandlesAimed.{IsTold, NamesHandles, NamesKnown, NamesTold, Naming, NamingAsks, NamingPass, PostsNameTold, adds_handle, is_reset_done, naming_next, nothing_named, told_after}
-use Rattle.mpt_wire.specs.LastPosts.{AnswersLast, AnswersPost, IsLastPost, LastPostAsks, RepliesAnswerPass, RepliesAnswerPosts, frame_posted, is_posted, last_post_by, last_post_next}
-use Rattle.mpt_wire.specs.TiesOnWire.{TiesOnWire, TiesPass}
+use Rattle.mpt_wire.specs.Ties.CommandPosts.{CommandPostAsks, CommandPostsPass, CommandsArePosted, PostsCommand, PostsOpen}
+use Rattle.mpt_wire.specs.Ties.HandlesAimed.{IsTold, NamesHandles, NamesKnown, NamesTold, Naming, NamingAsks, NamingPass, PostsNameTold, adds_handle, is_reset_done, naming_next, nothing_named, told_after}
+use Rattle.mpt_wire.specs.Ties.LastPosts.{AnswersLast, AnswersPost, IsLastPost, LastPostAsks, RepliesAnswerPass, RepliesAnswerPosts, frame_posted, is_posted, last_post_by, last_post_next}
+use Rattle.mpt_wire.specs.Ties.OnWire.{TiesOnWire, TiesPass}
 use Rattle.mpt_wire.proofs.Lasting.{asked_in, lasts}
 use Rattle.mpt_wire.proofs.PagesTold.{pages_are_of_plugs}
 use Rattle.mpt_wire.proofs.RemovalsUnbind.{successes_unbind}

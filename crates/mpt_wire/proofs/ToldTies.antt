@@ -8,9 +8,9 @@ use Rattle.mpt_trace.specs.declared.outcome.Outcome.TheVariants as outcome
 use Rattle.mpt_trace.specs.declared.entry.Entry.{Entry}
 use Rattle.mpt_trace.specs.declared.entry.Entry.TheVariants as entry
 use Rattle.mpt_wire.specs.Messages.Fields.{success_descriptor}
-use Rattle.mpt_wire.specs.OpeningWrites.{OpeningsAreBare}
-use Rattle.mpt_wire.specs.ToldInPlace.{TellsInPlace}
-use Rattle.mpt_wire.specs.ToldNext.{RepliesAreToldNext}
+use Rattle.mpt_wire.specs.Ties.OpeningWrites.{OpeningsAreBare}
+use Rattle.mpt_wire.specs.Ties.ToldInPlace.{TellsInPlace}
+use Rattle.mpt_wire.specs.Ties.ToldNext.{RepliesAreToldNext}
 
 abbrev hears_reply : List Entry
 hears_reply = entry.Accept 1 5 1 ∷ entry.Take lane.Up (item.Up (up.Reply (success_descriptor 1) None [] [])) ∷ []

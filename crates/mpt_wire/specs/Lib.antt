@@ -1,21 +1,10 @@
 -- The rules on the wire: what may stand in a trace, and what a trace shows.
-pub mod Acknowledged
-pub mod Attached
-pub mod CommandPosts
-pub mod EventsTold
 pub mod Fits
 pub mod Handles
-pub mod HandlesAimed
-pub mod LastPosts
 pub mod Machine
 pub mod Messages
 pub mod OnWire
-pub mod OpeningWrites
-pub mod PagesTold
 pub mod Paths
 pub mod Queues
-pub mod RemovalsUnbind
-pub mod TiesOnWire
-pub mod ToldInPlace
-pub mod ToldNext
+pub mod Ties
 pub mod Walks

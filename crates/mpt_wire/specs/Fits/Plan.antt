@@ -15,7 +15,7 @@ use Rattle.mpt_trace.specs.declared.parties.Party.{Party}
 use Rattle.mpt_trace.specs.declared.parties.Party.TheVariants as party
 use Rattle.mpt_wire.specs.Walks.Ahead.{PassesAhead, is_of}
 use Rattle.mpt_wire.specs.Queues.Lanes.{put_on_lane}
-use Rattle.mpt_wire.specs.ToldInPlace.{TellsInPlace}
+use Rattle.mpt_wire.specs.Ties.ToldInPlace.{TellsInPlace}
 
 -- what a plan says of the order: the plugs before the first submitter, the lines of each submitter, and the lines of the
 -- fabric's block

@@ -2,15 +2,15 @@
 -- under the handle, an acknowledgement to its event, and what is told to the reply that says it.
 use Rattle.std.specs.Prelude.{ℕ, ◌≤◌, List}
 use Rattle.mpt_trace.specs.declared.entry.Entry.{Entry}
-use Rattle.mpt_wire.specs.Acknowledged.{AcksSucceed, EventsAreAcknowledged}
-use Rattle.mpt_wire.specs.CommandPosts.{CommandPostsPass, CommandsArePosted, OnlyCommandsHaveData}
-use Rattle.mpt_wire.specs.EventsTold.{EventsAreOfChanges}
-use Rattle.mpt_wire.specs.HandlesAimed.{NamingPass, PostsNameTold}
-use Rattle.mpt_wire.specs.LastPosts.{RepliesAnswerPass, RepliesAnswerPosts}
-use Rattle.mpt_wire.specs.OpeningWrites.{OpeningsAreBare}
-use Rattle.mpt_wire.specs.PagesTold.{PagesAreOfDisks, PagesAreOfPlugs}
-use Rattle.mpt_wire.specs.RemovalsUnbind.{RemovalsUnbind, SuccessesUnbind}
-use Rattle.mpt_wire.specs.ToldNext.{RepliesAreToldNext}
+use Rattle.mpt_wire.specs.Ties.Acknowledged.{AcksSucceed, EventsAreAcknowledged}
+use Rattle.mpt_wire.specs.Ties.CommandPosts.{CommandPostsPass, CommandsArePosted, OnlyCommandsHaveData}
+use Rattle.mpt_wire.specs.Ties.EventsTold.{EventsAreOfChanges}
+use Rattle.mpt_wire.specs.Ties.HandlesAimed.{NamingPass, PostsNameTold}
+use Rattle.mpt_wire.specs.Ties.LastPosts.{RepliesAnswerPass, RepliesAnswerPosts}
+use Rattle.mpt_wire.specs.Ties.OpeningWrites.{OpeningsAreBare}
+use Rattle.mpt_wire.specs.Ties.PagesTold.{PagesAreOfDisks, PagesAreOfPlugs}
+use Rattle.mpt_wire.specs.Ties.RemovalsUnbind.{RemovalsUnbind, SuccessesUnbind}
+use Rattle.mpt_wire.specs.Ties.ToldNext.{RepliesAreToldNext}
 
 -- the messages of a trace, with expanders that have so many phys
 pub record TiesOnWire (phys : List ℕ) (t : List Entry) : Type 0 where

@@ -10,7 +10,7 @@ use Rattle.mpt_trace.specs.declared.item.Up.TheVariants as up
 use Rattle.mpt_trace.specs.declared.item.Back.TheVariants as back
 use Rattle.mpt_trace.specs.declared.entry.Entry.{Entry}
 use Rattle.mpt_trace.specs.declared.entry.Entry.TheVariants as entry
-use Rattle.mpt_wire.specs.Attached.{Attached, Attachment, attached_next, nothing_attached}
+use Rattle.mpt_wire.specs.Ties.Attached.{Attached, Attachment, attached_next, nothing_attached}
 use Rattle.mpt_wire.specs.Messages.Fields.{smid_in}
 use Rattle.mpt_wire.specs.Walks.Passes.{Passes}
 

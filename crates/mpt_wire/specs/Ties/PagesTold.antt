@@ -15,10 +15,10 @@ use Rattle.mpt_trace.specs.declared.item.Down.TheVariants as down
 use Rattle.mpt_trace.specs.declared.item.Up.TheVariants as up
 use Rattle.mpt_trace.specs.declared.entry.Entry.{Entry}
 use Rattle.mpt_trace.specs.declared.entry.Entry.TheVariants as entry
-use Rattle.mpt_wire.specs.Attached.{Attached, Attachment, WasPluggedAt, attached_next, nothing_attached}
+use Rattle.mpt_wire.specs.Ties.Attached.{Attached, Attachment, WasPluggedAt, attached_next, nothing_attached}
 use Rattle.mpt_wire.specs.Handles.Bindings.{IsBoundTo}
 use Rattle.mpt_wire.specs.Messages.Fields.{function_in, ioc_status_in, smid_in}
-use Rattle.mpt_wire.specs.LastPosts.{IsLastPost}
+use Rattle.mpt_wire.specs.Ties.LastPosts.{IsLastPost}
 use Rattle.mpt_wire.specs.Machine.State.{put_at}
 use Rattle.mpt_wire.specs.Messages.Naming.{success}
 use Rattle.mpt_wire.specs.Walks.Passes.{Passes}

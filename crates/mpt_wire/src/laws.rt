@@ -11,7 +11,7 @@ ghost use Rattle.mpt_wire.specs.Queues.LeastFree.{LeastAreAccepted, LeastPass};
 ghost use Rattle.mpt_wire.specs.Machine.Lives.{HaveOneLife};
 ghost use Rattle.mpt_wire.specs.Machine.Steps.{IsRun, Step};
 ghost use Rattle.mpt_wire.specs.Paths.Rules.{PathsKept, PathsPass};
-ghost use Rattle.mpt_wire.specs.TiesOnWire.{TiesOnWire, TiesPass};
+ghost use Rattle.mpt_wire.specs.Ties.OnWire.{TiesOnWire, TiesPass};
 ghost use Rattle.mpt_wire.specs.Machine.View.{SeenAsks, ViewIsRun, first_seen, seen_next};
 
 /// Every run of the machine of disks gives each request one life at most: it is accepted, runs at most once, at the disk
