@@ -45,8 +45,8 @@ use Rattle.mpt_wire.specs.Messages.Fields.{address_descriptor, changes_from, pos
 use Rattle.mpt_wire.specs.Ties.Acknowledged.{AcksSucceed, EventsAreAcknowledged}
 use Rattle.mpt_wire.specs.Ties.CommandPosts.{CommandPostsPass, OnlyCommandsHaveData, command_message}
 use Rattle.mpt_wire.specs.Ties.EventsTold.{EventsAreOfChanges}
-use Rattle.mpt_wire.specs.Ties.HandlesAimed.{NamesKnown, NamingPass, nothing_named}
-use Rattle.mpt_wire.specs.Ties.LastPosts.{Answers, RepliesAnswerPass}
+use Rattle.mpt_wire.specs.Ties.HandlesAimed.{NamesKnown, HandlesToldPass, no_handles_told}
+use Rattle.mpt_wire.specs.Ties.LastPosts.{AnswersAsk, RepliesAnswerPass}
 use Rattle.mpt_wire.specs.Ties.PagesTold.{PagesAreOfDisks}
 use Rattle.mpt_wire.specs.Ties.RemovalsUnbind.{RemovalsUnbind}
 
@@ -107,7 +107,7 @@ removed_busy : RepliesAnswerPass 265 (posts 265 (ask.Remove 9) ∷ says 265 (rep
 unfolding scsi_io_layout scsi_io_values task_ask_layout task_ask_values config_ask_layout config_ask_values unit_control_layout unit_control_values unit_control_reply_layout unit_control_reply_values event_ack_layout event_ack_values event_ask_layout event_ask_values port_enable_layout port_enable_values
 removed_busy p = by_ask p.1.0.ask p.1.0.reply p.1.0.asked p.1.0.replied p.1.0.answers
   where
-    by_ask : (a : HostAsk) (r : IocReply) → frame_of (ask.Remove 9) ≡ frame_of a → reply_frame (reply.Removed 9 0x0d 2) ≡ reply_frame r → Answers 265 a r → ⊥
+    by_ask : (a : HostAsk) (r : IocReply) → frame_of (ask.Remove 9) ≡ frame_of a → reply_frame (reply.Removed 9 0x0d 2) ≡ reply_frame r → AnswersAsk 265 a r → ⊥
     by_ask (ask.Remove handle) (reply.Removed h operation status) e f x =
         apart 2 0 refl (ap (λ xs. slice_index xs 0x0e) (f ∙ ap (λ s. reply_frame (reply.Removed h operation s)) x.2))
     by_ask (ask.ScsiIo smid handle lun cdb cdb_len len write) (reply.Scsi h tag scsi_status status moved sense) e f x = apart 0x1b 0 refl (ap (λ xs. slice_index xs 3) e)
@@ -180,16 +180,16 @@ ack_fails p = apart 7 0 refl p.0
 
 -- ---- the handles that are named
 
-handle_told : NamingPass (hears (reply.Topology 1 9 0 4 3 true) ∷ posts 265 (ask.PageRead 265 9) ∷ [])
+handle_told : HandlesToldPass (hears (reply.Topology 1 9 0 4 3 true) ∷ posts 265 (ask.PageRead 265 9) ∷ [])
 unfolding field changes_from event_reply_layout event_reply_values topology_layout topology_values topology_entry_layout topology_entry_values
 handle_told = (tt, (record { request = ask.PageRead 265 9; asked = refl; names = refl }, tt))
 
 -- a page is read of a handle that the host wasn't told of
-handle_untold : NamingPass (posts 265 (ask.PageRead 265 9) ∷ []) → ⊥
+handle_untold : HandlesToldPass (posts 265 (ask.PageRead 265 9) ∷ []) → ⊥
 unfolding scsi_io_layout scsi_io_values task_ask_layout task_ask_values config_ask_layout config_ask_values unit_control_layout unit_control_values event_ack_layout event_ack_values event_ask_layout event_ask_values port_enable_layout port_enable_values ioc_facts_layout ioc_facts_values port_facts_layout port_facts_values ioc_init_layout ioc_init_values
 handle_untold p = by_ask p.0.request p.0.asked p.0.names
   where
-    by_ask : (a : HostAsk) → frame_of (ask.PageRead 265 9) ≡ frame_of a → NamesKnown nothing_named a → ⊥
+    by_ask : (a : HostAsk) → frame_of (ask.PageRead 265 9) ≡ frame_of a → NamesKnown no_handles_told a → ⊥
     by_ask (ask.PageRead smid handle) e n = absurd cc
     by_ask (ask.ScsiIo smid handle lun cdb cdb_len len write) e n = apart 4 0 refl (ap (λ xs. slice_index xs 3) e)
     by_ask (ask.Task handle task_type task_mid) e n = apart 4 1 refl (ap (λ xs. slice_index xs 3) e)

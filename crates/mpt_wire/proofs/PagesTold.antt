@@ -12,7 +12,7 @@ use Rattle.mpt_trace.specs.declared.item.Up.TheVariants as up
 use Rattle.mpt_trace.specs.declared.item.Back.TheVariants as back
 use Rattle.mpt_trace.specs.declared.entry.Entry.{Entry}
 use Rattle.mpt_trace.specs.declared.entry.Entry.TheVariants as entry
-use Rattle.mpt_wire.specs.Ties.Attached.{Attachment, Plugged, WasPluggedAt, attachment_of, plugged_in}
+use Rattle.mpt_wire.specs.Ties.Attached.{Attachment, Plugged, WasPluggedAt, attachment_of, plugged_taken}
 use Rattle.mpt_wire.specs.Handles.Bindings.{BindsTo, Plug, ends_binding}
 use Rattle.mpt_wire.specs.Messages.Fields.{smid_in}
 use Rattle.mpt_wire.specs.Ties.LastPosts.{IsLastPost, frame_posted, is_posted}
@@ -82,7 +82,7 @@ abbrev IsThere : ℕ → ℕ → Place → PageReads → Type 0
 IsThere a k place g = g.attached.plugged a k ≡ Some place
 
 abbrev Takes : ℕ → ℕ → Place → Entry → Type 0
-Takes a k place e = plugged_in e ≡ Some (record { plug = record { address = a; number = k }; place = place })
+Takes a k place e = plugged_taken e ≡ Some (record { plug = record { address = a; number = k }; place = place })
 
 plug_came : (a k : ℕ) (place : Place) (g : PageReads) (e : Entry) → IsThere a k place (page_reads_next g e) → Takes a k place e ⊎ (IsThere a k place g × (never e ≡ false))
 plug_came a k place g (entry.Take lane (item.Back (back.Plugged address number expander phy))) f = by_address (a == address) refl f

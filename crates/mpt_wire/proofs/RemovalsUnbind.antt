@@ -12,11 +12,11 @@ use Rattle.mpt_wire.specs.Handles.Names.{Aimed, removal_posted, reply_smid_in}
 use Rattle.mpt_wire.specs.Messages.Naming.{success}
 use Rattle.mpt_wire.specs.Walks.Passes.{state_after}
 use Rattle.mpt_wire.specs.Handles.Removals.{is_same_number, removal_taken}
-use Rattle.mpt_wire.specs.Ties.RemovalsUnbind.{IsTaken, NoRemoval, Removal, RemovalAsks, RemovalsUnbind, SuccessesUnbind, Taken, Unbound, UnbindsBy, ends_taken, is_removal_of, removal_by, removal_next, removal_over, unbinds, unbound_by}
+use Rattle.mpt_wire.specs.Ties.RemovalsUnbind.{IsTaken, NoRemoval, RemovalStage, RemovalAsks, RemovalsUnbind, SuccessesUnbind, StillBound, NowUnbound, UnbindsBy, ends_taken, is_removal_of, removal_by, removal_next, removal_over, unbinds, unbound_by}
 use Rattle.mpt_wire.proofs.Lasting.{asked_in, holds, left_not, right_not}
 
-abbrev Stands : ℕ → Removal → Type 0
-Stands h g = g ≡ Taken h
+abbrev Stands : ℕ → RemovalStage → Type 0
+Stands h g = g ≡ StillBound h
 
 abbrev Takes : ℕ → ℕ → Entry → Type 0
 Takes s h e = removal_taken e ≡ Some (record { smid = s; handle = h })
@@ -27,41 +27,41 @@ ends s h e = ends_taken s e || unbinds h e
 
 -- ---- taking one
 
-taken_by : (s h : ℕ) (g : Removal) (o : Option Aimed) → o ≡ Some (record { smid = s; handle = h }) → removal_by s g o ≡ Taken h
+taken_by : (s h : ℕ) (g : RemovalStage) (o : Option Aimed) → o ≡ Some (record { smid = s; handle = h }) → removal_by s g o ≡ StillBound h
 taken_by s h g None e = absurd cc
 taken_by s h g (Some post) e = grind (arith, common_steps)
 
-takes : (s h : ℕ) (g : Removal) (e : Entry) → Takes s h e → removal_next s g e ≡ Taken h
+takes : (s h : ℕ) (g : RemovalStage) (e : Entry) → Takes s h e → removal_next s g e ≡ StillBound h
 takes s h g (entry.Take lane (item.Down i)) e = taken_by s h g (removal_posted i) e
 takes s h g _ e = absurd cc
 
 -- ---- what leaves it
 
-other_post : (s h : ℕ) (g : Removal) (o : Option Aimed) → g ≡ Taken h → is_removal_of s o ≡ false → removal_by s g o ≡ Taken h
+other_post : (s h : ℕ) (g : RemovalStage) (o : Option Aimed) → g ≡ StillBound h → is_removal_of s o ≡ false → removal_by s g o ≡ StillBound h
 other_post s h g None f e = f
 other_post s h g (Some post) f e = by_test (post.smid == s) e
   where
-    by_test : (b : Bool) → b ≡ false → (if b then Taken post.handle else g) ≡ Taken h
+    by_test : (b : Bool) → b ≡ false → (if b then StillBound post.handle else g) ≡ StillBound h
     by_test true e = absurd cc
     by_test false e = f
 
-other_reply : (s h : ℕ) (g : Removal) (o : Option ℕ) → g ≡ Taken h → is_same_number s o ≡ false → removal_over s g o ≡ Taken h
+other_reply : (s h : ℕ) (g : RemovalStage) (o : Option ℕ) → g ≡ StillBound h → is_same_number s o ≡ false → removal_over s g o ≡ StillBound h
 other_reply s h g None f e = f
 other_reply s h g (Some smid) f e = by_test (smid == s) e
   where
-    by_test : (b : Bool) → b ≡ false → (if b then NoRemoval else g) ≡ Taken h
+    by_test : (b : Bool) → b ≡ false → (if b then NoRemoval else g) ≡ StillBound h
     by_test true e = absurd cc
     by_test false e = f
 
-other_handle : (h handle : ℕ) (g : Removal) → g ≡ Taken h → (handle == h) ≡ false → unbound_by handle g ≡ Taken h
+other_handle : (h handle : ℕ) (g : RemovalStage) → g ≡ StillBound h → (handle == h) ≡ false → unbound_by handle g ≡ StillBound h
 other_handle h handle NoRemoval f e = f
-other_handle h handle (Taken k) f e = grind (arith, common_steps)
-other_handle h handle Unbound f e = absurd cc
+other_handle h handle (StillBound k) f e = grind (arith, common_steps)
+other_handle h handle NowUnbound f e = absurd cc
 
 not_over : (s h : ℕ) (e : Entry) → ends s h e ≡ false → ends_taken s e ≡ false
 not_over s h e p = left_not (ends_taken s e) (unbinds h e) p
 
-stays : (s h : ℕ) (g : Removal) (e : Entry) → Stands h g → ends s h e ≡ false → Stands h (removal_next s g e)
+stays : (s h : ℕ) (g : RemovalStage) (e : Entry) → Stands h g → ends s h e ≡ false → Stands h (removal_next s g e)
 stays s h g (entry.Put lane (item.Up i)) f e = other_reply s h g (reply_smid_in i) f (left_not (is_same_number s (reply_smid_in i)) false (not_over s h (entry.Put lane (item.Up i)) e))
 stays s h g (entry.Take lane (item.Down i)) f e = other_post s h g (removal_posted i) f (right_not false (is_removal_of s (removal_posted i)) (not_over s h (entry.Take lane (item.Down i)) e))
 stays s h g (entry.Unbind handle) f e = other_handle h handle g f (right_not (ends_taken s (entry.Unbind handle)) (handle == h) e)
@@ -80,7 +80,7 @@ none_of_both p q (e ∷ t) a b =
     (neither (p e) (q e) (left_not (p e) (list_any p t) a) (left_not (q e) (list_any q t) b))
     (none_of_both p q t (right_not (p e) (list_any p t) a) (right_not (q e) (list_any q t) b))
 
-still_taken : (s h : ℕ) (before : List Entry) (l : IsTaken before s h) → list_any (unbinds h) l.since ≡ false → state_after (removal_next s) NoRemoval before ≡ Taken h
+still_taken : (s h : ℕ) (before : List Entry) (l : IsTaken before s h) → list_any (unbinds h) l.since ≡ false → state_after (removal_next s) NoRemoval before ≡ StillBound h
 still_taken s h before l none =
     holds (removal_next s) (Stands h) (Takes s h) (ends s h) (takes s h) (stays s h) NoRemoval before
     (record { earlier = l.earlier; maker = l.maker; since = l.since; split = l.split; makes = l.makes; kept = none_of_both (ends_taken s) (unbinds h) l.since l.kept none })
@@ -89,10 +89,10 @@ asked_if : {P : Type 0} (b : Bool) → MatchBool b P (Unit {0}) → b ≡ true �
 asked_if true p e = p
 asked_if false p e = absurd cc
 
-failed : (h : ℕ) (g : Removal) (frame : List ℕ) → g ≡ Taken h → UnbindsBy g (Some frame) → (ioc_status_in frame == success) ≡ false
+failed : (h : ℕ) (g : RemovalStage) (frame : List ℕ) → g ≡ StillBound h → UnbindsBy g (Some frame) → (ioc_status_in frame == success) ≡ false
 failed h NoRemoval frame e u = absurd cc
-failed h (Taken k) frame e u = u
-failed h Unbound frame e u = absurd cc
+failed h (StillBound k) frame e u = u
+failed h NowUnbound frame e u = absurd cc
 
 pub successes_unbind : (s : ℕ) (t : List Entry) → RemovalsUnbind s t → SuccessesUnbind s t
 successes_unbind s t p before after lane descriptor h frame page sense split named succeeds l = by_unbind (list_any (unbinds h) l.since) refl

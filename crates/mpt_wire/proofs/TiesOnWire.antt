@@ -22,7 +22,7 @@ use Rattle.mpt_wire.specs.Paths.Commands.{Known, Live, known_next, nothing_known
 use Rattle.mpt_wire.specs.Paths.Replies.{open_under}
 use Rattle.mpt_wire.specs.Handles.Tasks.{IsPostedTo, handle_posted}
 use Rattle.mpt_wire.specs.Ties.CommandPosts.{CommandPostAsks, CommandPostsPass, CommandsArePosted, PostsCommand, PostsOpen}
-use Rattle.mpt_wire.specs.Ties.HandlesAimed.{IsTold, NamesHandles, NamesKnown, NamesTold, Naming, NamingAsks, NamingPass, PostsNameTold, adds_handle, is_reset_done, naming_next, nothing_named, told_after}
+use Rattle.mpt_wire.specs.Ties.HandlesAimed.{IsTold, NamesHandles, NamesKnown, NamesTold, HandlesTold, HandlesToldAsks, HandlesToldPass, PostsNameTold, adds_handle, is_end_of_reset, handles_told_next, no_handles_told, told_after}
 use Rattle.mpt_wire.specs.Ties.LastPosts.{AnswersLast, AnswersPost, IsLastPost, LastPostAsks, RepliesAnswerPass, RepliesAnswerPosts, frame_posted, is_posted, last_post_by, last_post_next}
 use Rattle.mpt_wire.specs.Ties.OnWire.{TiesOnWire, TiesPass}
 use Rattle.mpt_wire.proofs.Lasting.{asked_in, lasts}
@@ -83,7 +83,7 @@ replies_answer_posts s t p before after lane descriptor frame page sense split n
 
 -- ---- the handles of posts
 
-abbrev Knows : ℕ → Naming → Type 0
+abbrev Knows : ℕ → HandlesTold → Type 0
 Knows h g = g.told h ≡ true
 
 told_came : (h : ℕ) (told : ℕ → Bool) (reset adds : Bool) → (if reset then false else (adds || told h)) ≡ true → (adds ≡ true) ⊎ ((told h ≡ true) × (reset ≡ false))
@@ -91,13 +91,13 @@ told_came h told true adds f = absurd cc
 told_came h told false true f = inl refl
 told_came h told false false f = inr (f, refl)
 
-name_came : (h : ℕ) (g : Naming) (e : Entry) → Knows h (naming_next g e) → (adds_handle h e ≡ true) ⊎ (Knows h g × (is_reset_done e ≡ false))
-name_came h g e f = told_came h g.told (is_reset_done e) (adds_handle h e) f
+name_came : (h : ℕ) (g : HandlesTold) (e : Entry) → Knows h (handles_told_next g e) → (adds_handle h e ≡ true) ⊎ (Knows h g × (is_end_of_reset e ≡ false))
+name_came h g e f = told_came h g.told (is_end_of_reset e) (adds_handle h e) f
 
-is_told : (before : List Entry) (h : ℕ) → (state_after naming_next nothing_named before).told h ≡ true → IsTold before h
-is_told before h f = lasts naming_next (Knows h) (λ e. adds_handle h e ≡ true) is_reset_done (name_came h) nothing_named (λ n. cc) before f
+is_told : (before : List Entry) (h : ℕ) → (state_after handles_told_next no_handles_told before).told h ≡ true → IsTold before h
+is_told before h f = lasts handles_told_next (Knows h) (λ e. adds_handle h e ≡ true) is_end_of_reset (name_came h) no_handles_told (λ n. cc) before f
 
-abbrev Has : ℕ → ℕ → Naming → Type 0
+abbrev Has : ℕ → ℕ → HandlesTold → Type 0
 Has s h g = g.handle s ≡ Some h
 
 by_post : (s h : ℕ) (handle : ℕ → Option ℕ) (post : Option Aimed) → handle_posted handle post s ≡ Some h
@@ -105,28 +105,28 @@ by_post : (s h : ℕ) (handle : ℕ → Option ℕ) (post : Option Aimed) → ha
 by_post s h handle None f = inr (f, refl)
 by_post s h handle (Some post) f = grind (arith, common_steps)
 
-handle_came : (s h : ℕ) (g : Naming) (e : Entry) → Has s h (naming_next g e) → (aimed_in_put e ≡ Some (record { smid = s; handle = h })) ⊎ (Has s h g × (is_aimed_as s (aimed_in_put e) ≡ false))
+handle_came : (s h : ℕ) (g : HandlesTold) (e : Entry) → Has s h (handles_told_next g e) → (aimed_in_put e ≡ Some (record { smid = s; handle = h })) ⊎ (Has s h g × (is_aimed_as s (aimed_in_put e) ≡ false))
 handle_came s h g e f = by_post s h g.handle (aimed_in_put e) f
 
-is_posted_to : (before : List Entry) (s h : ℕ) → (state_after naming_next nothing_named before).handle s ≡ Some h → IsPostedTo before s h
+is_posted_to : (before : List Entry) (s h : ℕ) → (state_after handles_told_next no_handles_told before).handle s ≡ Some h → IsPostedTo before s h
 is_posted_to before s h f =
-    lasts naming_next (Has s h) (λ e. aimed_in_put e ≡ Some (record { smid = s; handle = h })) (λ e. is_aimed_as s (aimed_in_put e)) (handle_came s h) nothing_named (λ n. cc) before f
+    lasts handles_told_next (Has s h) (λ e. aimed_in_put e ≡ Some (record { smid = s; handle = h })) (λ e. is_aimed_as s (aimed_in_put e)) (handle_came s h) no_handles_told (λ n. cc) before f
 
 task_told : (before : List Entry) (b : Bool) (h task : ℕ)
-    → MatchBool b ((state_after naming_next nothing_named before).handle task ≡ Some h) ((state_after naming_next nothing_named before).told h ≡ true)
+    → MatchBool b ((state_after handles_told_next no_handles_told before).handle task ≡ Some h) ((state_after handles_told_next no_handles_told before).told h ≡ true)
     → MatchBool b (IsPostedTo before task h) (IsTold before h)
 task_told before true h task f = is_posted_to before task h f
 task_told before false h task f = is_told before h f
 
-names_told : (before : List Entry) (request : HostAsk) → NamesKnown (state_after naming_next nothing_named before) request → NamesTold before request
+names_told : (before : List Entry) (request : HostAsk) → NamesKnown (state_after handles_told_next no_handles_told before) request → NamesTold before request
 names_told before (ask.PageRead smid handle) f = is_told before handle f
 names_told before (ask.Remove handle) f = is_told before handle f
 names_told before (ask.Task handle task_type task_mid) f = task_told before (task_type == abort_task) handle task_mid f
 names_told before _ f = tt
 
-pub posts_name_told : (t : List Entry) → NamingPass t → PostsNameTold t
+pub posts_name_told : (t : List Entry) → HandlesToldPass t → PostsNameTold t
 posts_name_told t p before after lane descriptor frame payload split =
-    let a : NamesHandles (state_after naming_next nothing_named before) frame = asked_in naming_next NamingAsks nothing_named t before after (entry.Put lane (item.Down (down.Post descriptor frame payload))) p split in
+    let a : NamesHandles (state_after handles_told_next no_handles_told before) frame = asked_in handles_told_next HandlesToldAsks no_handles_told t before after (entry.Put lane (item.Down (down.Post descriptor frame payload))) p split in
     (a.request, a.asked, names_told before a.request a.names)
 
 -- ---- all of them

@@ -78,10 +78,10 @@ pub record Follows (order : Order) (s : Setting) (x : Session) : Type 0 where
 -- ---- the merge
 
 -- each moment isn't after the next
-abbrev pub IsSorted : {X : Type 0} → List (Of X) → Type 0
-IsSorted [] = Unit {0}
-IsSorted (x ∷ []) = Unit {0}
-IsSorted (x ∷ y ∷ rest) = (is_not_after x y ≡ true) × IsSorted (y ∷ rest)
+abbrev pub IsByStamp : {X : Type 0} → List (Of X) → Type 0
+IsByStamp [] = Unit {0}
+IsByStamp (x ∷ []) = Unit {0}
+IsByStamp (x ∷ y ∷ rest) = (is_not_after x y ≡ true) × IsByStamp (y ∷ rest)
 
 -- a journal is the part of its party: its entries, in its order
 abbrev pub IsPartOf : List Entry → Row (List Entry) → Type 0
@@ -90,7 +90,7 @@ IsPartOf t row = filter (is_of row.party) t ≡ entries_in row.moments
 -- the cases stand by rising stamp and party, and each party's part of the trace is its journal in order. That the entries
 -- of a case stand together is so by what a merge is: it is a list of whole cases
 pub record IsMerged (s : Setting) (x : Session) : Type 0 where
-  pub sorted : IsSorted (all_merged (journals s x))
+  pub sorted : IsByStamp (all_merged (journals s x))
   pub parts : All (IsPartOf (session_trace s x)) (journals s x)
 
 -- ---- stamps

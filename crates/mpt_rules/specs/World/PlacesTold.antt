@@ -10,20 +10,20 @@ use Rattle.mpt_rules.specs.World.PlaceCounts.{frame_count, is_held_frame, is_thi
 use Rattle.mpt_rules.specs.World.Places.{FramePlace, SmidPlace, frame_place, smid_place}
 use Rattle.mpt_rules.specs.World.State.{World}
 
-abbrev pub is_free : Slot Request → Bool
-is_free pool.Free = true
-is_free pool.Parked = false
-is_free (pool.Open value) = false
+abbrev pub is_free_slot : Slot Request → Bool
+is_free_slot pool.Free = true
+is_free_slot pool.Parked = false
+is_free_slot (pool.Open value) = false
 
-abbrev pub is_parked : Slot Request → Bool
-is_parked pool.Free = false
-is_parked pool.Parked = true
-is_parked (pool.Open value) = false
+abbrev pub is_parked_slot : Slot Request → Bool
+is_parked_slot pool.Free = false
+is_parked_slot pool.Parked = true
+is_parked_slot (pool.Open value) = false
 
 -- how often an identifier is found at a place
 abbrev pub smid_found : World → ℕ → SmidPlace → ℕ
-smid_found w smid SmidPlace.Free = one_if (is_free (slot_of w.host.pool smid))
-smid_found w smid SmidPlace.Parked = one_if (is_parked (slot_of w.host.pool smid))
+smid_found w smid SmidPlace.Free = one_if (is_free_slot (slot_of w.host.pool smid))
+smid_found w smid SmidPlace.Parked = one_if (is_parked_slot (slot_of w.host.pool smid))
 smid_found w smid SmidPlace.HostOut = post_count smid w.host.out
 smid_found w smid SmidPlace.DownLane = post_count smid w.down
 smid_found w smid SmidPlace.HighQueue = queued_count smid w.ioc.high

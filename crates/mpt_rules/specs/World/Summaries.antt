@@ -17,24 +17,24 @@ use Rattle.mpt_rules.specs.World.State.{World}
 
 -- ---- the handles by their phases
 
-abbrev pub is_reading : Phase → Bool
-is_reading (phase.Reading smid) = true
-is_reading _ = false
+abbrev pub is_reading_phase : Phase → Bool
+is_reading_phase (phase.Reading smid) = true
+is_reading_phase _ = false
 
 -- one of the three phases in which a handle waits for an identifier
-abbrev pub is_waiting : Phase → Bool
-is_waiting phase.WaitRead = true
-is_waiting phase.WaitHigh = true
-is_waiting phase.WaitInternal = true
-is_waiting _ = false
+abbrev pub is_waiting_phase : Phase → Bool
+is_waiting_phase phase.WaitRead = true
+is_waiting_phase phase.WaitHigh = true
+is_waiting_phase phase.WaitInternal = true
+is_waiting_phase _ = false
 
-abbrev pub is_resetting : Phase → Bool
-is_resetting (phase.Resetting smid) = true
-is_resetting _ = false
+abbrev pub is_resetting_phase : Phase → Bool
+is_resetting_phase (phase.Resetting smid) = true
+is_resetting_phase _ = false
 
-abbrev pub is_removing : Phase → Bool
-is_removing (phase.Removing smid) = true
-is_removing _ = false
+abbrev pub is_removing_phase : Phase → Bool
+is_removing_phase (phase.Removing smid) = true
+is_removing_phase _ = false
 
 -- how many handles of the host pass
 abbrev pub handles : (Phase → Bool) → List Phase → ℕ
@@ -53,11 +53,11 @@ summary_with m phases quiet t = record {
   reset = count_by is_reset_answer t;
   refused = count_by is_refusal t;
   unanswered = finmap.len m.requests;
-  reading = handles is_reading phases;
+  reading = handles is_reading_phase phases;
   ready = ready_disks m;
-  waiting = handles is_waiting phases;
-  resetting = handles is_resetting phases;
-  removing = handles is_removing phases;
+  waiting = handles is_waiting_phase phases;
+  resetting = handles is_resetting_phase phases;
+  removing = handles is_removing_phase phases;
   state = m.mode;
   quiet = quiet;
 }

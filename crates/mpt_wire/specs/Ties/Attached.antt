@@ -52,11 +52,11 @@ pub record Plugged : Type 0 where
   pub place : Place
 
 -- what a `plugged` that is taken says
-abbrev pub plugged_in : Entry → Option Plugged
-plugged_in (entry.Take lane (item.Back (back.Plugged address number expander phy))) =
+abbrev pub plugged_taken : Entry → Option Plugged
+plugged_taken (entry.Take lane (item.Back (back.Plugged address number expander phy))) =
     Some (record { plug = record { address = address; number = number }; place = record { expander = expander; phy = phy } })
-plugged_in _ = None
+plugged_taken _ = None
 
 -- the plug was taken, at this place
 abbrev pub WasPluggedAt : List Entry → Plug → Place → Type 0
-WasPluggedAt before plug place = Lasts (λ e. plugged_in e ≡ Some (record { plug = plug; place = place })) never before
+WasPluggedAt before plug place = Lasts (λ e. plugged_taken e ≡ Some (record { plug = plug; place = place })) never before

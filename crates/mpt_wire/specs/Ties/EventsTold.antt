@@ -50,13 +50,13 @@ event_put true g = record g { due = drop 1 g.due; context = (g.context + 1) % 2 
 event_put false g = g
 
 -- an event is put, or changes are made; a reset drops those that aren't told
-abbrev pub told_by : Telling → Entry → Telling
-told_by g (entry.Put lane (item.Up (up.Reply descriptor frame page sense))) = event_put (smid_in descriptor == 0) g
-told_by g entry.UnbindAll = record g { due = []; context = 1 }
-told_by g e = record g { due = g.due ++ changes_made g.attached e }
+abbrev pub telling_by : Telling → Entry → Telling
+telling_by g (entry.Put lane (item.Up (up.Reply descriptor frame page sense))) = event_put (smid_in descriptor == 0) g
+telling_by g entry.UnbindAll = record g { due = []; context = 1 }
+telling_by g e = record g { due = g.due ++ changes_made g.attached e }
 
 abbrev pub telling_next : Telling → Entry → Telling
-telling_next g e = record (told_by g e) { attached = attached_next g.attached e }
+telling_next g e = record (telling_by g e) { attached = attached_next g.attached e }
 
 -- the event of a change, where the expanders have so many phys
 abbrev pub event_of : List ℕ → ℕ → DiskChange → IocReply

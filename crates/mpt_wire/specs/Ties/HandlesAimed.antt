@@ -26,15 +26,15 @@ abbrev pub adds_handle : ℕ → Entry → Bool
 adds_handle h (entry.Take lane (item.Up i)) = list_any (is_added_of h) (changes_told i)
 adds_handle h _ = false
 
-abbrev pub is_reset_done : Entry → Bool
-is_reset_done entry.ResetDone = true
-is_reset_done _ = false
+abbrev pub is_end_of_reset : Entry → Bool
+is_end_of_reset entry.ResetDone = true
+is_end_of_reset _ = false
 
 -- ---- over the entries before
 
 -- the host was told of the handle since the last `reset done`
 abbrev pub IsTold : List Entry → ℕ → Type 0
-IsTold before h = Lasts (λ e. adds_handle h e ≡ true) is_reset_done before
+IsTold before h = Lasts (λ e. adds_handle h e ≡ true) is_end_of_reset before
 
 -- the handles that a request names: an abort's is that of the post of the identifier that it names
 abbrev pub NamesTold : List Entry → HostAsk → Type 0
@@ -53,34 +53,34 @@ PostsNameTold t =
 -- ---- as a rule that goes over the entries
 
 -- of which handles the host was told, and the handle of each identifier's last post
-pub record Naming : Type 0 where
+pub record HandlesTold : Type 0 where
   pub told : ℕ → Bool
   pub handle : ℕ → Option ℕ
 
-abbrev pub nothing_named : Naming
-nothing_named = record { told = λ h. false; handle = λ s. None }
+abbrev pub no_handles_told : HandlesTold
+no_handles_told = record { told = λ h. false; handle = λ s. None }
 
 abbrev pub told_after : (ℕ → Bool) → Entry → ℕ → Bool
-told_after told e h = if is_reset_done e then false else (adds_handle h e || told h)
+told_after told e h = if is_end_of_reset e then false else (adds_handle h e || told h)
 
-abbrev pub naming_next : Naming → Entry → Naming
-naming_next g e = record { told = told_after g.told e; handle = handle_posted g.handle (aimed_in_put e) }
+abbrev pub handles_told_next : HandlesTold → Entry → HandlesTold
+handles_told_next g e = record { told = told_after g.told e; handle = handle_posted g.handle (aimed_in_put e) }
 
-abbrev pub NamesKnown : Naming → HostAsk → Type 0
+abbrev pub NamesKnown : HandlesTold → HostAsk → Type 0
 NamesKnown g (ask.PageRead smid handle) = g.told handle ≡ true
 NamesKnown g (ask.Remove handle) = g.told handle ≡ true
 NamesKnown g (ask.Task handle task_type task_mid) = MatchBool (task_type == abort_task) (g.handle task_mid ≡ Some handle) (g.told handle ≡ true)
 NamesKnown g _ = Unit {0}
 
 -- the frame is of a request that names such handles
-pub record NamesHandles (g : Naming) (frame : List ℕ) : Type 0 where
+pub record NamesHandles (g : HandlesTold) (frame : List ℕ) : Type 0 where
   pub request : HostAsk
   pub asked : frame ≡ message_frame (host_message request)
   pub names : NamesKnown g request
 
-abbrev pub NamingAsks : Naming → Entry → Type 0
-NamingAsks g (entry.Put lane (item.Down (down.Post descriptor frame payload))) = NamesHandles g frame
-NamingAsks g _ = Unit {0}
+abbrev pub HandlesToldAsks : HandlesTold → Entry → Type 0
+HandlesToldAsks g (entry.Put lane (item.Down (down.Post descriptor frame payload))) = NamesHandles g frame
+HandlesToldAsks g _ = Unit {0}
 
-abbrev pub NamingPass : List Entry → Type 0
-NamingPass t = Passes naming_next NamingAsks nothing_named t
+abbrev pub HandlesToldPass : List Entry → Type 0
+HandlesToldPass t = Passes handles_told_next HandlesToldAsks no_handles_told t

@@ -16,7 +16,7 @@ use Rattle.mpt_trace.specs.declared.item.Up.TheVariants as up
 use Rattle.mpt_trace.specs.declared.item.Item.TheVariants as item
 use Rattle.mpt_trace.specs.declared.entry.Entry.{Entry}
 use Rattle.mpt_trace.specs.declared.entry.Entry.TheVariants as entry
-use Rattle.mpt_wire.specs.Messages.Fields.{smid_in}
+use Rattle.mpt_wire.specs.Messages.Fields.{remove_device, smid_in}
 use Rattle.mpt_wire.specs.Walks.Lasting.{Lasts}
 use Rattle.mpt_wire.specs.Messages.Naming.{data_underrun, device_not_there, success, task_terminated}
 use Rattle.mpt_wire.specs.Walks.Passes.{Passes}
@@ -35,10 +35,6 @@ page_read_current = 0x01
 abbrev pub sas_device_page : ℕ
 sas_device_page = 0x12
 
--- Operation: mpi2_sas.h, MPI2_SAS_OP_REMOVE_DEVICE
-abbrev pub remove_device : ℕ
-remove_device = 0x0d
-
 -- ---- a request's answer
 
 -- a command that a disk performed, whose status is one of these; another has moved nothing, and its disk says nothing
@@ -49,17 +45,17 @@ ScsiStatusFits status scsi_status moved sense =
 
 -- the reply answers the request with identifier s: it is of its function, names what the request names, and its
 -- status is one that the controller gives to such a request
-abbrev pub Answers : ℕ → HostAsk → IocReply → Type 0
-Answers s (ask.ScsiIo smid handle lun cdb cdb_len len write) (reply.Scsi h tag scsi_status status moved sense) =
+abbrev pub AnswersAsk : ℕ → HostAsk → IocReply → Type 0
+AnswersAsk s (ask.ScsiIo smid handle lun cdb cdb_len len write) (reply.Scsi h tag scsi_status status moved sense) =
     (h ≡ handle) × (tag ≡ s) × ScsiStatusFits status scsi_status moved sense
-Answers s (ask.Task handle task_type task_mid) (reply.Task h kind status code count) = (h ≡ handle) × (kind ≡ task_type) × (status ≡ success) × (code ≡ 0)
-Answers s (ask.PageRead smid handle) (reply.Config action ext_type status) =
+AnswersAsk s (ask.Task handle task_type task_mid) (reply.Task h kind status code count) = (h ≡ handle) × (kind ≡ task_type) × (status ≡ success) × (code ≡ 0)
+AnswersAsk s (ask.PageRead smid handle) (reply.Config action ext_type status) =
     (action ≡ page_read_current) × (ext_type ≡ sas_device_page) × ((status ≡ success) ⊎ (status ≡ config_invalid_page))
-Answers s (ask.Remove handle) (reply.Removed h operation status) = (h ≡ handle) × (operation ≡ remove_device) × (status ≡ success)
-Answers s (ask.Ack event context) (reply.Plain fn status) = (fn ≡ byte_of function.EventAck) × ((status ≡ success) ⊎ (status ≡ invalid_field))
-Answers s ask.Notification reply.Notified = Unit {0}
-Answers s ask.PortEnable (reply.Plain fn status) = (fn ≡ byte_of function.PortEnable) × (status ≡ success)
-Answers s _ _ = ⊥
+AnswersAsk s (ask.Remove handle) (reply.Removed h operation status) = (h ≡ handle) × (operation ≡ remove_device) × (status ≡ success)
+AnswersAsk s (ask.Ack event context) (reply.Plain fn status) = (fn ≡ byte_of function.EventAck) × ((status ≡ success) ⊎ (status ≡ invalid_field))
+AnswersAsk s ask.Notification reply.Notified = Unit {0}
+AnswersAsk s ask.PortEnable (reply.Plain fn status) = (fn ≡ byte_of function.PortEnable) × (status ≡ success)
+AnswersAsk s _ _ = ⊥
 
 -- the frame of a reply answers the frame of a request
 pub record AnswersFrame (s : ℕ) (request frame : List ℕ) : Type 0 where
@@ -67,7 +63,7 @@ pub record AnswersFrame (s : ℕ) (request frame : List ℕ) : Type 0 where
   pub reply : IocReply
   pub asked : request ≡ message_frame (host_message ask)
   pub replied : frame ≡ reply_frame reply
-  pub answers : Answers s ask reply
+  pub answers : AnswersAsk s ask reply
 
 -- a success without a frame answers a SCSI IO
 pub record AsksCommand (request : List ℕ) : Type 0 where

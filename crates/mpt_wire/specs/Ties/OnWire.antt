@@ -5,7 +5,7 @@ use Rattle.mpt_trace.specs.declared.entry.Entry.{Entry}
 use Rattle.mpt_wire.specs.Ties.Acknowledged.{AcksSucceed, EventsAreAcknowledged}
 use Rattle.mpt_wire.specs.Ties.CommandPosts.{CommandPostsPass, CommandsArePosted, OnlyCommandsHaveData}
 use Rattle.mpt_wire.specs.Ties.EventsTold.{EventsAreOfChanges}
-use Rattle.mpt_wire.specs.Ties.HandlesAimed.{NamingPass, PostsNameTold}
+use Rattle.mpt_wire.specs.Ties.HandlesAimed.{HandlesToldPass, PostsNameTold}
 use Rattle.mpt_wire.specs.Ties.LastPosts.{RepliesAnswerPass, RepliesAnswerPosts}
 use Rattle.mpt_wire.specs.Ties.OpeningWrites.{OpeningsAreBare}
 use Rattle.mpt_wire.specs.Ties.PagesTold.{PagesAreOfDisks, PagesAreOfPlugs}
@@ -35,7 +35,7 @@ pub record TiesPass (phys : List ℕ) (t : List Entry) : Type 0 where
   pub pages : PagesAreOfDisks t
   pub acknowledged : EventsAreAcknowledged t
   pub known : AcksSucceed t
-  pub handles : NamingPass t
+  pub handles : HandlesToldPass t
   pub told : RepliesAreToldNext t
   pub removals : (s : ℕ) → 1 ≤ s → RemovalsUnbind s t
   pub openings : OpeningsAreBare t

@@ -42,28 +42,28 @@ SuccessesUnbind s t =
 -- ---- as a rule that goes over the entries
 
 -- how far the remove device of an identifier is
-pub data Removal : Type 0 where
+pub data RemovalStage : Type 0 where
   -- there is none that was taken and isn't answered
-  NoRemoval : Removal
+  NoRemoval : RemovalStage
   -- it was taken, for this handle
-  Taken : (handle : ℕ) → Removal
+  StillBound : (handle : ℕ) → RemovalStage
   -- and the handle was unbound since
-  Unbound : Removal
+  NowUnbound : RemovalStage
 
-abbrev pub removal_by : ℕ → Removal → Option Aimed → Removal
+abbrev pub removal_by : ℕ → RemovalStage → Option Aimed → RemovalStage
 removal_by s g None = g
-removal_by s g (Some post) = if post.smid == s then Taken post.handle else g
+removal_by s g (Some post) = if post.smid == s then StillBound post.handle else g
 
-abbrev pub removal_over : ℕ → Removal → Option ℕ → Removal
+abbrev pub removal_over : ℕ → RemovalStage → Option ℕ → RemovalStage
 removal_over s g None = g
 removal_over s g (Some smid) = if smid == s then NoRemoval else g
 
-abbrev pub unbound_by : ℕ → Removal → Removal
+abbrev pub unbound_by : ℕ → RemovalStage → RemovalStage
 unbound_by handle NoRemoval = NoRemoval
-unbound_by handle (Taken h) = if h == handle then Unbound else Taken h
-unbound_by handle Unbound = Unbound
+unbound_by handle (StillBound h) = if h == handle then NowUnbound else StillBound h
+unbound_by handle NowUnbound = NowUnbound
 
-abbrev pub removal_next : ℕ → Removal → Entry → Removal
+abbrev pub removal_next : ℕ → RemovalStage → Entry → RemovalStage
 removal_next s g (entry.Take lane (item.Down i)) = removal_by s g (removal_posted i)
 removal_next s g (entry.Put lane (item.Up i)) = removal_over s g (reply_smid_in i)
 removal_next s g (entry.Unbind handle) = unbound_by handle g
@@ -71,16 +71,16 @@ removal_next s g entry.UnbindAll = NoRemoval
 removal_next s g _ = g
 
 -- the reply has SUCCESS exactly where the handle was unbound
-abbrev pub UnbindsIf : Removal → Bool → Type 0
+abbrev pub UnbindsIf : RemovalStage → Bool → Type 0
 UnbindsIf NoRemoval succeeds = Unit {0}
-UnbindsIf (Taken handle) succeeds = succeeds ≡ false
-UnbindsIf Unbound succeeds = succeeds ≡ true
+UnbindsIf (StillBound handle) succeeds = succeeds ≡ false
+UnbindsIf NowUnbound succeeds = succeeds ≡ true
 
-abbrev pub UnbindsBy : Removal → Option (List ℕ) → Type 0
+abbrev pub UnbindsBy : RemovalStage → Option (List ℕ) → Type 0
 UnbindsBy g None = Unit {0}
 UnbindsBy g (Some frame) = UnbindsIf g (ioc_status_in frame == success)
 
-abbrev pub RemovalAsks : ℕ → Removal → Entry → Type 0
+abbrev pub RemovalAsks : ℕ → RemovalStage → Entry → Type 0
 RemovalAsks s g (entry.Put lane (item.Up (up.Reply descriptor frame page sense))) = MatchBool (smid_in descriptor == s) (UnbindsBy g frame) (Unit {0})
 RemovalAsks s g _ = Unit {0}
 

@@ -23,17 +23,17 @@ use Rattle.mpt_wire.specs.Queues.Marks.{is_command}
 use Rattle.mpt_wire.specs.Machine.State.{put_at}
 
 -- what an open abort or a target reset that was asked from outside ends with
-pub data Ends : Type 0 where
+pub data AwaitedEnd : Type 0 where
   -- the abort of the number
-  OfAbort : (n : ℕ) → Ends
+  OfAbort : (n : ℕ) → AwaitedEnd
   -- the target reset of the address
-  OfReset : (address : ℕ) → Ends
+  OfReset : (address : ℕ) → AwaitedEnd
 
 pub record Awaiting : Type 0 where
   -- what was said so far, and which identifiers are open
   pub giving : Giving
   -- by high priority identifier: what its reply ends
-  pub ends : ℕ → Option Ends
+  pub ends : ℕ → Option AwaitedEnd
   -- by handle: the address that was told as ready with it, and not as lost since
   pub ready : ℕ → Option ℕ
 
@@ -43,17 +43,17 @@ nothing_awaited = record { giving = nothing_given; ends = λ s. None; ready = λ
 -- ---- what is awaited
 
 -- the input asks for an abort or for a target reset
-abbrev pub ends_of : Input → Option Ends
+abbrev pub ends_of : Input → Option AwaitedEnd
 ends_of (input.Abort n) = Some (OfAbort n)
 ends_of (input.TargetReset address) = Some (OfReset address)
 ends_of _ = None
 
-abbrev pub ends_at : Option ℕ → Option Ends → (ℕ → Option Ends) → (ℕ → Option Ends)
+abbrev pub ends_at : Option ℕ → Option AwaitedEnd → (ℕ → Option AwaitedEnd) → (ℕ → Option AwaitedEnd)
 ends_at (Some s) (Some how) ends = put_at s (Some how) ends
 ends_at _ _ ends = ends
 
 -- one that isn't refused gets the least free identifier
-abbrev pub asked_end : Awaiting → Input → Option Entry → (ℕ → Option Ends)
+abbrev pub asked_end : Awaiting → Input → Option Entry → (ℕ → Option AwaitedEnd)
 asked_end g given ahead = if is_call_refused (call_of given) ahead then g.ends else ends_at (least_of post.HighPriority g.giving.high) (ends_of given) g.ends
 
 abbrev pub awaiting_by : Awaiting → Entry → Option Entry → Awaiting
@@ -75,7 +75,7 @@ AnswersNumber None ahead = ⊥
 AnswersNumber (Some n) ahead = (how : Outcome) × (ahead ≡ Some (entry.Answer n how))
 
 -- the end of the abort or of the target reset
-abbrev pub TellsEnd : Option Ends → Option Entry → Type 0
+abbrev pub TellsEnd : Option AwaitedEnd → Option Entry → Type 0
 TellsEnd None ahead = Unit {0}
 TellsEnd (Some (OfAbort n)) ahead = (how : AbortOutcome) × (ahead ≡ Some (entry.AbortEnd n how))
 TellsEnd (Some (OfReset address)) ahead = (how : TargetOutcome) × (ahead ≡ Some (entry.TargetEnd address how))
@@ -86,9 +86,9 @@ TellsReady None ahead = Unit {0}
 TellsReady (Some disk) ahead = ahead ≡ Some (entry.Ready disk.address disk.handle)
 
 -- the port is enabled
-abbrev pub enables : Option (List ℕ) → Bool
-enables None = false
-enables (Some frame) = function_in frame == byte_of function.PortEnable
+abbrev pub enables_port : Option (List ℕ) → Bool
+enables_port None = false
+enables_port (Some frame) = function_in frame == byte_of function.PortEnable
 
 -- a disk that was ready departs
 abbrev pub lost_of : (ℕ → Option ℕ) → Change → Option ℕ
@@ -106,7 +106,7 @@ TellsChanges ready (change ∷ changes) ahead = TellsLost change.handle (lost_of
 abbrev pub TellsUnless : Bool → Awaiting → Up → Option (List ℕ) → Option Entry → Type 0
 TellsUnless true g i frame ahead = Unit {0}
 TellsUnless false g i frame ahead =
-    TellsReady (page_carried i) ahead × TellsChanges g.ready (changes_told i) ahead × MatchBool (enables frame) (ahead ≡ Some entry.HostUp) (Unit {0})
+    TellsReady (page_carried i) ahead × TellsChanges g.ready (changes_told i) ahead × MatchBool (enables_port frame) (ahead ≡ Some entry.HostUp) (Unit {0})
 
 -- the reply is a command's, whose answer is told, or another
 abbrev pub AwaitingAsks : Awaiting → Entry → Option Entry → Type 0
