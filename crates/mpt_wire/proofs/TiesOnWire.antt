@@ -1,12 +1,9 @@
 -- What passes the rules that tie messages keeps them as they are stated of the whole trace.
-use Rattle.std.proofs.Common.{◌≡◌, ◌⊎◌, inl, inr, ℕ, ◌==◌, ◌||◌, ◌≤◌, Bool, true, false, if◌then◌else◌, List, ◌∷◌, ◌++◌, Option, Some, None, refl, arith}
+use Rattle.std.proofs.Common.{◌≡◌, ◌⊎◌, inl, inr, ℕ, ◌==◌, ◌||◌, Bool, true, false, if◌then◌else◌, List, Option, Some, None, refl, arith}
 use Rattle.std.specs.Bool.{MatchBool}
 use Rattle.std.proofs.lemmas.Grind.{common_steps}
-use Rattle.mpt_messages.specs.FrameBytes.{message_frame}
-use Rattle.mpt_messages.specs.HostFrames.{host_message}
 use Rattle.mpt_messages.specs.declared.host_ask.HostAsk.{HostAsk}
 use Rattle.mpt_messages.specs.declared.host_ask.HostAsk.TheVariants as ask
-use Rattle.mpt_trace.specs.declared.lane.LaneName.{LaneName}
 use Rattle.mpt_trace.specs.declared.item.Down.TheVariants as down
 use Rattle.mpt_trace.specs.declared.item.Up.TheVariants as up
 use Rattle.mpt_trace.specs.declared.item.Item.TheVariants as item
@@ -14,15 +11,14 @@ use Rattle.mpt_trace.specs.declared.entry.Entry.{Entry}
 use Rattle.mpt_trace.specs.declared.entry.Entry.TheVariants as entry
 use Rattle.mpt_wire.specs.Messages.Fields.{abort_task, smid_in}
 use Rattle.mpt_wire.specs.Handles.Names.{Aimed}
-use Rattle.mpt_wire.specs.Walks.Lasting.{Lasts}
 use Rattle.mpt_wire.specs.Messages.Naming.{names_command}
 use Rattle.mpt_wire.specs.Handles.Pages.{is_aimed_as, aimed_in_put}
-use Rattle.mpt_wire.specs.Walks.Passes.{Passes, state_after}
-use Rattle.mpt_wire.specs.Paths.Commands.{Known, Live, known_next, nothing_known}
+use Rattle.mpt_wire.specs.Walks.Passes.{state_after}
+use Rattle.mpt_wire.specs.Paths.Commands.{Live, known_next, nothing_known}
 use Rattle.mpt_wire.specs.Paths.Replies.{open_under}
 use Rattle.mpt_wire.specs.Handles.Tasks.{IsPostedTo, handle_posted}
 use Rattle.mpt_wire.specs.Ties.CommandPosts.{CommandPostAsks, CommandPostsPass, CommandsArePosted, PostsCommand, PostsOpen}
-use Rattle.mpt_wire.specs.Ties.HandlesAimed.{IsTold, NamesHandles, NamesKnown, NamesTold, HandlesTold, HandlesToldAsks, HandlesToldPass, PostsNameTold, adds_handle, is_end_of_reset, handles_told_next, no_handles_told, told_after}
+use Rattle.mpt_wire.specs.Ties.HandlesAimed.{IsTold, NamesHandles, NamesKnown, NamesTold, HandlesTold, HandlesToldAsks, HandlesToldPass, PostsNameTold, adds_handle, is_end_of_reset, handles_told_next, no_handles_told}
 use Rattle.mpt_wire.specs.Ties.LastPosts.{AnswersLast, AnswersPost, IsLastPost, LastPostAsks, RepliesAnswerPass, RepliesAnswerPosts, frame_posted, is_posted, last_post_by, last_post_next}
 use Rattle.mpt_wire.specs.Ties.OnWire.{TiesOnWire, TiesPass}
 use Rattle.mpt_wire.proofs.Lasting.{asked_in, lasts}

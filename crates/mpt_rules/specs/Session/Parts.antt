@@ -1,5 +1,5 @@
 -- What is said of each party of a session by itself, and of the merge of their journals.
-use Rattle.std.specs.Prelude.{◌≡◌, ℕ, ◌<◌, ◌^◌, Bool, true, false, List, [], ◌∷◌, All, filter, filter_map, flat_map, length, map, Option, Some, None}
+use Rattle.std.specs.Prelude.{◌≡◌, ◌<◌, ◌^◌, Bool, true, false, List, [], ◌∷◌, All, filter, filter_map, flat_map, length, map, Option, Some, None}
 use Rattle.std.specs.List.{list_any}
 use Rattle.mpi_doorbell.specs.DoorRegisters.{is_fault}
 use Rattle.mpt_trace.specs.declared.entry.Entry.{Entry}
@@ -12,7 +12,7 @@ use Rattle.mpt_wire.specs.Fits.Plan.{AsksAreDone, FabricDoes, HostDoesAsks, NoMo
 use Rattle.mpt_rules.specs.Fabric.Parts.{new_fabric}
 use Rattle.mpt_rules.specs.Host.Takes.{takes_up}
 use Rattle.mpt_rules.specs.Host.Parts.{Host, new_host}
-use Rattle.mpt_rules.specs.Ioc.Parts.{Ioc, new_ioc}
+use Rattle.mpt_rules.specs.Ioc.Parts.{Ioc}
 use Rattle.mpt_rules.specs.Session.Journals.{At, Block, Of, Row, TakesFollow, all_merged, fabric_journal, host_journal, is_not_after, puts_of, takes_of}
 use Rattle.mpt_rules.specs.Session.OpenCases.{HostCase, IocCase, PutsAsk, SubmitterCase, TakesTell, host_does, ioc_does}
 use Rattle.mpt_rules.specs.Session.Sessions.{Session, journals, session_trace}

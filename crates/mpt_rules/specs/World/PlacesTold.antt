@@ -1,5 +1,5 @@
 -- What `places` tells: the place of an identifier, and of a reply frame, is the one where it is found.
-use Rattle.std.specs.Prelude.{◌≡◌, ℕ, ◌+◌, ◌==◌, Bool, true, false, List, sum_by, slice_index_or, is_some}
+use Rattle.std.specs.Prelude.{◌≡◌, ℕ, ◌+◌, Bool, true, false, sum_by, slice_index_or, is_some}
 use Rattle.smid_pool.specs.Pool as pool
 use Rattle.smid_pool.specs.Pool.{Slot, slot_of}
 use Rattle.mpt_rules.specs.declared.host_frame.HostFrame.TheVariants as frame

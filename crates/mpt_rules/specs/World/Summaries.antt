@@ -1,5 +1,5 @@
 -- The summary of a world and of the trace that leads to it, and the reports of a schedule and of a session.
-use Rattle.std.specs.Prelude.{ℕ, ◌||◌, Bool, true, false, List, count_by, map}
+use Rattle.std.specs.Prelude.{ℕ, Bool, true, false, List, count_by, map}
 use Rattle.std.specs.FinMap as finmap
 use Rattle.removal.specs.declared.phase.Phase.{Phase}
 use Rattle.removal.specs.declared.phase.Phase.TheVariants as phase

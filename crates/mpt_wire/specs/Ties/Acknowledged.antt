@@ -1,6 +1,6 @@
 -- An acknowledgement names the event that it acknowledges: events are acknowledged in the order in which the host takes
 -- them, each at most once, and every acknowledgement succeeds.
-use Rattle.std.specs.Prelude.{◌≡◌, ℕ, ◌==◌, Bool, true, false, if◌then◌else◌, List, [], ◌∷◌, ◌++◌, drop, Option, Some, None}
+use Rattle.std.specs.Prelude.{◌≡◌, ℕ, ◌==◌, Bool, true, false, if◌then◌else◌, List, [], ◌∷◌, ◌++◌, drop, Option, Some}
 use Rattle.std.specs.Bool.{MatchBool}
 use Rattle.mpt_messages.specs.FrameBytes.{message_frame}
 use Rattle.mpt_messages.specs.Function.{byte_of}

@@ -1,5 +1,5 @@
 -- A reply answers the last post of its identifier: it is the message of an answer to that post's message.
-use Rattle.std.specs.Prelude.{◌≡◌, ◌⊎◌, ℕ, ◌≤◌, ◌==◌, ◌&&◌, ◌||◌, Bool, true, false, if◌then◌else◌, List, ◌∷◌, ◌++◌, Option, Some, None}
+use Rattle.std.specs.Prelude.{◌≡◌, ◌⊎◌, ℕ, ◌==◌, Bool, true, false, if◌then◌else◌, List, ◌∷◌, ◌++◌, Option, Some, None}
 use Rattle.std.specs.Bool.{MatchBool}
 use Rattle.mpt_messages.specs.FrameBytes.{message_frame}
 use Rattle.mpt_messages.specs.Function.{byte_of}

@@ -1,5 +1,5 @@
 -- A write to the Doorbell that isn't a dword of a message has nothing in its low 16 bits.
-use Rattle.std.specs.Prelude.{◌≡◌, ℕ, ◌%◌, ◌^◌, ◌==◌, ◌&&◌, Bool, List}
+use Rattle.std.specs.Prelude.{◌≡◌, ◌%◌, ◌^◌, ◌==◌, ◌&&◌, List}
 use Rattle.std.specs.Bool.{MatchBool}
 use Rattle.mpi_doorbell.specs.declared.registers.TheConstants.{DOORBELL}
 use Rattle.mpt_trace.specs.declared.item.Item.TheVariants as item

@@ -1,5 +1,5 @@
 -- What a reply makes the host tell is told: it is the host's next entry.
-use Rattle.std.specs.Prelude.{◌≡◌, ℕ, ◌==◌, ◌&&◌, ◌||◌, not, Bool, true, false, if◌then◌else◌, List, [], ◌∷◌, Option, Some, None}
+use Rattle.std.specs.Prelude.{◌≡◌, ℕ, ◌==◌, Bool, true, false, if◌then◌else◌, List, [], ◌∷◌, Option, Some, None}
 use Rattle.std.specs.Bool.{MatchBool}
 use Rattle.mpi_rings.specs.declared.request_descriptor.PostKind.TheVariants as post
 use Rattle.mpt_messages.specs.Function.{byte_of}
