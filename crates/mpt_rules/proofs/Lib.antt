@@ -44,3 +44,5 @@ mod IocResetExamples
 pub mod StartExamples
 pub mod HostTurns
 mod WireExamples
+pub mod RegisterTies
+pub mod RepeatedAnswers

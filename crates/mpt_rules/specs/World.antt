@@ -9,7 +9,11 @@ pub mod Moves
 pub mod News
 pub mod PlaceCounts
 pub mod Places
+pub mod PlacesTold
+pub mod RegisterValues
 pub mod Replays
 pub mod Settings
 pub mod State
+pub mod Summaries
+pub mod TurnsDone
 pub mod Weight

@@ -86,7 +86,7 @@ an_event = ((refl, refl), tt)
 -- ---- the least free identifier
 
 -- an accept with the second least
-second_least : LeastPass (entry.Accept 1 5 2 ∷ []) → ⊥
+pub second_least : LeastPass (entry.Accept 1 5 2 ∷ []) → ⊥
 second_least h = let e : false ≡ true = h.0.least 1 (omega arith) (omega arith) in absurd (cc)
 
 -- an accept with the identifier of an open request

@@ -172,10 +172,10 @@ accepted_twice p = apart 9 10 refl (p.1.1.0.2 9 refl ∙ sym (p.1.1.0.2 10 refl)
 
 -- ---- tasks
 
-abbrev tests_unit : Command
+abbrev pub tests_unit : Command
 tests_unit = record { lun = 0; cdb = replicate 6 0; len = 0; payload = [] }
 
-abbrev sends : ℕ → ℕ → Entry
+abbrev pub sends : ℕ → ℕ → Entry
 sends s a = entry.Put lane.Out (item.Out (out.Task s a tests_unit))
 
 task_to_binding : Passes aiming_next TaskAsks nothing_aimed (entry.Bind 9 address 1 ∷ puts_down (posts_io 1 9) ∷ sends 1 address ∷ [])

@@ -6,4 +6,5 @@ pub mod Messages
 pub mod OnWire
 pub mod Paths
 pub mod Queues
+pub mod Ties
 pub mod Walks

@@ -11,6 +11,7 @@ ghost use Rattle.mpt_wire.specs.Queues.LeastFree.{LeastAreAccepted, LeastPass};
 ghost use Rattle.mpt_wire.specs.Machine.Lives.{HaveOneLife};
 ghost use Rattle.mpt_wire.specs.Machine.Steps.{IsRun, Step};
 ghost use Rattle.mpt_wire.specs.Paths.Rules.{PathsKept, PathsPass};
+ghost use Rattle.mpt_wire.specs.Ties.OnWire.{TiesOnWire, TiesPass};
 ghost use Rattle.mpt_wire.specs.Machine.View.{SeenAsks, ViewIsRun, first_seen, seen_next};
 
 /// Every run of the machine of disks gives each request one life at most: it is accepted, runs at most once, at the disk
@@ -30,5 +31,6 @@ pub fn passing_keeps_the_rules()
     ensures queues { (q : ℕ) (t : List Entry) → QueuesPass q t → QueuesOnWire q t }
     ensures messages { (q : ℕ) (t : List Entry) → MessagesPass q t → MessagesOnWire q t }
     ensures paths { (t : List Entry) → PathsPass t → PathsKept t }
+    ensures ties { (phys : List ℕ) (t : List Entry) → TiesPass phys t → TiesOnWire phys t }
     ensures disks { (disks : List DiskSpec) (t : List Entry) → PassesAhead seen_next SeenAsks (first_seen disks) t → ViewIsRun disks t }
 {}

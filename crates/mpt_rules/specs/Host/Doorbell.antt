@@ -13,8 +13,6 @@ use Rattle.mpt_messages.specs.HostFrames.{host_message}
 use Rattle.mpt_messages.specs.FrameBytes.{message_bytes}
 use Rattle.mpt_trace.specs.declared.item.Down.{Down}
 use Rattle.mpt_trace.specs.declared.item.Down.TheVariants as down
-use Rattle.mpt_trace.specs.declared.host_state.HostState.{HostState}
-use Rattle.mpt_trace.specs.declared.host_state.HostState.TheVariants as state
 use Rattle.mpt_rules.specs.declared.stage.Stage.{Stage}
 use Rattle.mpt_rules.specs.declared.stage.Stage.TheVariants as stage
 use Rattle.mpt_rules.specs.Host.Parts.{Host, host_queue_count}

@@ -15,6 +15,7 @@ use Rattle.mpt_trace.specs.declared.parties.Party.{Party}
 use Rattle.mpt_trace.specs.declared.parties.Party.TheVariants as party
 use Rattle.mpt_wire.specs.Walks.Ahead.{PassesAhead, is_of}
 use Rattle.mpt_wire.specs.Queues.Lanes.{put_on_lane}
+use Rattle.mpt_wire.specs.Ties.ToldInPlace.{TellsInPlace}
 
 -- what a plan says of the order: the plugs before the first submitter, the lines of each submitter, and the lines of the
 -- fabric's block
@@ -104,3 +105,5 @@ pub record FitsPlan (order : Order) (t : List Entry) : Type 0 where
   pub fabric : FabricDoes order t
   pub tells : TellsPut 0 order.submitters t
   pub no_idle : list_any is_idle t ≡ false
+  -- what is told stands right after an entry of its own party
+  pub in_place : TellsInPlace t

@@ -23,8 +23,8 @@ pub record Hearing : Type 0 where
   pub last : Option Up
   -- the address that was last told as ready with the handle
   pub address_of : ℕ → Option ℕ
-  -- by high priority identifier: the command's identifier that its last abort names, and the handle that its last
-  -- target reset names
+  -- by high priority identifier: the command's identifier that its last abort names, and the address that was ready
+  -- with the handle of its last target reset as that was put
   pub abort_of : ℕ → Option ℕ
   pub reset_of : ℕ → Option ℕ
   -- the number of the last accept under the identifier
@@ -36,7 +36,7 @@ nothing_heard = record { last = None; address_of = λ h. None; abort_of = λ q. 
 abbrev pub post_heard : ℕ → List ℕ → Hearing → Hearing
 post_heard descriptor frame g =
     if is_abort descriptor frame then record g { abort_of = put_at (smid_in descriptor) (Some (task_mid_in frame)) g.abort_of }
-    else (if is_target_reset_post descriptor frame then record g { reset_of = put_at (smid_in descriptor) (Some (dev_handle_in frame)) g.reset_of } else g)
+    else (if is_target_reset_post descriptor frame then record g { reset_of = put_at (smid_in descriptor) (g.address_of (dev_handle_in frame)) g.reset_of } else g)
 
 abbrev pub hearing_next : Hearing → Entry → Hearing
 hearing_next g (entry.Put lane (item.Down (down.Post descriptor frame payload))) = post_heard descriptor frame g
@@ -80,15 +80,10 @@ AbortSays g last n abort.Reset = Unit {0}
 AbortSays g (Some (up.Reply descriptor (Some frame) page sense)) n how = IsSomeOf (number_aborted g (g.abort_of (smid_in descriptor))) n × (how ≡ abort_outcome frame)
 AbortSays g _ n how = ⊥
 
--- the address that was ready with the handle of the target reset with this identifier
-abbrev pub address_reset : Hearing → Option ℕ → Option ℕ
-address_reset g None = None
-address_reset g (Some handle) = g.address_of handle
-
 -- the reply that was taken is that of a target reset of the address, and has this count
 abbrev pub TargetResetSays : Hearing → Option Up → ℕ → TargetOutcome → Type 0
 TargetResetSays g last address target.Reset = Unit {0}
-TargetResetSays g (Some (up.Reply descriptor (Some frame) page sense)) address (target.Done count) = IsSomeOf (address_reset g (g.reset_of (smid_in descriptor))) address × (count ≡ termination_count_in frame)
+TargetResetSays g (Some (up.Reply descriptor (Some frame) page sense)) address (target.Done count) = IsSomeOf (g.reset_of (smid_in descriptor)) address × (count ≡ termination_count_in frame)
 TargetResetSays g _ address how = ⊥
 
 -- `ready` tells the page that was taken, `lost` the departure and the handle with which the disk was ready, and the

@@ -1,6 +1,6 @@
 -- The path of a command: what names its identifier stands, from its accept to its answer, in the order of one of
 -- the paths of the table.
-use Rattle.std.specs.Prelude.{◌≡◌, ℕ, Bool, false, ◌==◌, List, [], ◌∷◌, Option, Some, None, if◌then◌else◌}
+use Rattle.std.specs.Prelude.{◌≡◌, ℕ, Bool, ◌==◌, List, [], ◌∷◌, Option, Some, None, if◌then◌else◌}
 use Rattle.std.specs.List.{cons_option}
 use Rattle.scsi_disk.specs.declared.command.Command.{Command}
 use Rattle.mpt_trace.specs.declared.command_form.CommandForm.TheVariants.{Tur}
