@@ -302,10 +302,55 @@ drain_fits ws s e = fits_said (statement.Drain) s (bind_ok (nothing ws) _ s e).2
 -- what a line of a schedule says keeps its ranges
 pub schedule_line_fits : (ws : List (List ℕ)) (s : Statement) → schedule_line ws ≡ Ok s → statement_fits s ≡ true
 schedule_line_fits =
-    read_keeps (λ s. statement_fits s ≡ true) (schedule_words ++ shared_words)
-    (start_fits, (unit_fits, (drain_fits,
-    (counted_fits choice.HostPut (λ n. refl), (counted_fits choice.HostTake (λ n. refl), (host_take_on_fits,
-    (counted_fits choice.IocTake (λ n. refl), (counted_fits choice.IocHigh (λ n. refl), (counted_fits choice.IocNormal (λ n. refl),
-    (counted_fits choice.IocOut (λ n. refl), (counted_fits choice.IocBack (λ n. refl), (counted_fits choice.IocPut (λ n. refl), (ioc_put_on_fits,
-    (counted_fits choice.FabricTake (λ n. refl), (fabric_run_fits, (counted_fits choice.FabricSay (λ n. refl), (counted_fits choice.FabricPut (λ n. refl),
-    (queues_fits, (disk_fits, (expander_fits, (plug_fits, (unplug_fits, (reset_fits, (treset_fits, (submit_fits, (abort_fits, tt))))))))))))))))))))))))))
+    read_keeps (λ s. statement_fits s ≡ true) (schedule_words ++ shared_words) (
+      start_fits,
+      (
+        unit_fits,
+        (
+          drain_fits,
+          (
+            counted_fits choice.HostPut (λ n. refl),
+            (
+              counted_fits choice.HostTake (λ n. refl),
+              (
+                host_take_on_fits,
+                (
+                  counted_fits choice.IocTake (λ n. refl),
+                  (
+                    counted_fits choice.IocHigh (λ n. refl),
+                    (
+                      counted_fits choice.IocNormal (λ n. refl),
+                      (
+                        counted_fits choice.IocOut (λ n. refl),
+                        (
+                          counted_fits choice.IocBack (λ n. refl),
+                          (
+                            counted_fits choice.IocPut (λ n. refl),
+                            (
+                              ioc_put_on_fits,
+                              (
+                                counted_fits choice.FabricTake (λ n. refl),
+                                (
+                                  fabric_run_fits,
+                                  (
+                                    counted_fits choice.FabricSay (λ n. refl),
+                                    (
+                                      counted_fits choice.FabricPut (λ n. refl),
+                                      (queues_fits, (disk_fits, (expander_fits, (plug_fits, (unplug_fits, (reset_fits, (treset_fits, (submit_fits, (abort_fits, tt))))))))),
+                                    ),
+                                  ),
+                                ),
+                              ),
+                            ),
+                          ),
+                        ),
+                      ),
+                    ),
+                  ),
+                ),
+              ),
+            ),
+          ),
+        ),
+      ),
+    )

@@ -134,11 +134,31 @@ shared_fits reads shared fits ws s e =
 -- what a line of a plan says keeps its ranges
 pub plan_line_fits : (ws : List (List ℕ)) (s : PlanStatement) → plan_line ws ≡ Ok s → Fits s
 plan_line_fits =
-    read_keeps Fits (plan_words ++ map in_a_plan shared_words)
-    (submitter_fits, (fabric_fits,
-    (shared_fits queues queues_shared queues_fits, (shared_fits disk disk_shared disk_fits, (shared_fits expander expander_shared expander_fits,
-    (shared_fits plug plug_shared plug_fits, (shared_fits unplug unplug_shared unplug_fits, (shared_fits reset reset_shared reset_fits,
-    (shared_fits treset treset_shared treset_fits, (shared_fits submit submit_shared submit_fits, (shared_fits abort abort_shared abort_fits, tt)))))))))))
+    read_keeps Fits (plan_words ++ map in_a_plan shared_words) (
+      submitter_fits,
+      (
+        fabric_fits,
+        (
+          shared_fits queues queues_shared queues_fits,
+          (
+            shared_fits disk disk_shared disk_fits,
+            (
+              shared_fits expander expander_shared expander_fits,
+              (
+                shared_fits plug plug_shared plug_fits,
+                (
+                  shared_fits unplug unplug_shared unplug_fits,
+                  (
+                    shared_fits reset reset_shared reset_fits,
+                    (shared_fits treset treset_shared treset_fits, (shared_fits submit submit_shared submit_fits, (shared_fits abort abort_shared abort_fits, tt))),
+                  ),
+                ),
+              ),
+            ),
+          ),
+        ),
+      ),
+    )
 
 -- ---- what a printed line reads as
 

@@ -182,15 +182,15 @@ why_reply host queue descriptor frame page =
     let smid : ℕ = smid_in descriptor in
     let asked : Option Request = request_of host smid in
     first_some (
-      wrong_queue_of_reply queue descriptor
-      ∷ bad_descriptor descriptor frame
-      ∷ not_returned host descriptor frame
-      ∷ bad_frame frame
-      ∷ not_open host smid
-      ∷ bad_answer asked frame page
-      ∷ bad_status asked (status_by frame)
-      ∷ not_absent host smid frame
-      ∷ [])
+    wrong_queue_of_reply queue descriptor
+    ∷ bad_descriptor descriptor frame
+    ∷ not_returned host descriptor frame
+    ∷ bad_frame frame
+    ∷ not_open host smid
+    ∷ bad_answer asked frame page
+    ∷ bad_status asked (status_by frame)
+    ∷ not_absent host smid frame
+    ∷ [])
 
 -- of a mark
 abbrev pub why_mark : Host → ℕ → ℕ → Option Why

@@ -62,9 +62,9 @@ world_quiet w = lanes_empty w && is_empty w.host.out && not (host_waits w.host) 
 unfoldable pub drain_with : ℕ → World → Happening World
 drain_with zero w = nothing w
 drain_with (suc fuel) w = elim (world_quiet w) [
-    true ↦ nothing w
+  | true ↦ nothing w
   | false ↦ (let first : Happening World = round w in behind first.entries (drain_with fuel first.part))
-  ]
+]
 
 -- the number of these rounds
 unfoldable pub rounds_with : ℕ → World → ℕ
