@@ -26,6 +26,7 @@ for folder in ("examples", "tests", "docs", "include", ".ci"):
         words.update(re.findall(r"[\w'-]+", os.path.relpath(file, top)))
         words.update(re.findall(r"\w+", os.path.relpath(file, top)))
 
+crates = os.listdir(os.path.join(top, "crates"))
 pages = [os.path.join(top, n) for n in ("README.md", "CONTRIBUTING.md")] + list(files("docs", (".md",)))
 faults = 0
 
@@ -44,6 +45,9 @@ for page in pages:
             is_name = "_" in name.strip("_") or re.search(r"[a-z][A-Z]", name)
             if is_name and name not in words and name not in placeholders:
                 fault(page, f"no `{name}` in the crates")
+    for path in re.findall(r"\b(?:specs|src|proofs)/[\w/]+\.(?:antt|rt)", text):
+        if not any(os.path.exists(os.path.join(top, "crates", c, path)) for c in crates):
+            fault(page, f"no crate has {path}")
     for label, target in re.findall(r"\[([^\]]+)\]\(([^)#]+)(?:#[^)]*)?\)", text):
         if target.startswith("http"):
             continue
