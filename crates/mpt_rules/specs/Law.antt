@@ -1,6 +1,7 @@
 -- The law: what holds of every trace, of every world that a list of cases leads to, and of every session.
 -- These are statements alone. Each is to be carried by the contract of a function with an empty body, in this form.
 use Rattle.std.specs.Prelude.{◌≡◌, ℕ, ◌==◌, ◌≤◌, ◌⊎◌, Bool, true, false, List, ◌∷◌, ◌++◌, All, length, count_by, take, None}
+use Rattle.mpi_names.specs.declared.smid.TheConstants.{FIRST_SCSI_IO_SMID, LAST_INTERNAL_SMID}
 use Rattle.mpi_doorbell.specs.DoorRegisters.{is_fault}
 use Rattle.mpt_trace.specs.declared.entry.Entry.{Entry}
 use Rattle.mpt_trace.specs.declared.entry.Entry.TheVariants as entry
@@ -181,7 +182,7 @@ pub record IsLawful (s : Setting) (t : List Entry) : Type 0 where
 -- each identifier is in one place; it is in none only where a reset that is going on dropped its item
 abbrev pub IdentifiersHaveOnePlace : World → Type 0
 IdentifiersHaveOnePlace w =
-    (smid : ℕ) → 1 ≤ smid → smid ≤ 280 → (smid_count w smid ≡ 1) ⊎ ((smid_count w smid ≡ 0) × (w.host.mode ≡ state.Resetting))
+    (smid : ℕ) → FIRST_SCSI_IO_SMID ≤ smid → smid ≤ LAST_INTERNAL_SMID → (smid_count w smid ≡ 1) ⊎ ((smid_count w smid ≡ 0) × (w.host.mode ≡ state.Resetting))
 
 -- and so is each reply frame
 abbrev pub FramesHaveOnePlace : World → Type 0

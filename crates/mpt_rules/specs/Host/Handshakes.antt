@@ -1,7 +1,7 @@
 -- Which values the host refuses: those that its machine refuses, and the last of a handshake whose reply it doesn't take.
 use Rattle.std.specs.Prelude.{ℕ, ◌==◌, nat_le, ◌&&◌, ◌||◌, not, Bool, false, List, take, Option, Some, None, option_map, if◌then◌else◌}
 use Rattle.std.specs.Option.{option_or}
-use Rattle.smid_pool.specs.declared.class.TheConstants.{COUNT}
+use Rattle.mpi_names.specs.declared.smid.TheConstants.{SMIDS}
 use Rattle.smid_pool.specs.declared.class.Class.TheVariants.{High}
 use Rattle.smid_pool.specs.Class.{size_of}
 use Rattle.removal.specs.declared.handles.TheConstants.{FIRST_HANDLE}
@@ -65,7 +65,7 @@ last_expander = 15
 -- the controller takes as many identifiers, frames of these sizes, these handles, and at least as many queues
 abbrev pub are_facts_for : Host → List ℕ → Bool
 are_facts_for host facts =
-    (request_credit_in facts == COUNT) && ((high_priority_credit_in facts == size_of High)
+    (request_credit_in facts == SMIDS) && ((high_priority_credit_in facts == size_of High)
     && ((ioc_request_frame_size_in facts == frame_dwords) && ((reply_frame_size_in facts == frame_dwords)
     && ((min_dev_handle_in facts == FIRST_HANDLE) && ((max_dev_handle_in facts == expander_handle last_expander)
     && nat_le (host_queue_count host) (max_msix_vectors_in facts))))))

@@ -3,6 +3,7 @@ use Rattle.std.specs.Prelude.{ℕ, Bool, true, false, List, [], length, replicat
 use Rattle.std.specs.Ordering.{nat_cmp}
 use Rattle.std.specs.FinMap as map
 use Rattle.std.specs.FinSet as set
+use Rattle.mpi_names.specs.declared.memory.TheConstants.{REPLY_FRAMES}
 use Rattle.mpi_doorbell.specs.HostDoor.{HostDoor}
 use Rattle.mpt_trace.specs.declared.host_state.HostState.{HostState}
 use Rattle.mpt_trace.specs.declared.host_state.HostState.TheVariants as state
@@ -70,7 +71,7 @@ new_host q =
       phases = all_absent;
       wait_high = [];
       wait_internal = [];
-      frames = replicate 64 frame.Held;
+      frames = replicate REPLY_FRAMES frame.Held;
       machine = None;
       stage = stage.Idle;
       reading = false;

@@ -1,6 +1,7 @@
 -- The host's reply frames: where each is, how one is returned, and what leaves the host's outbox.
 use Rattle.std.specs.Prelude.{ℕ, ◌+◌, ◌-◌, ◌/◌, ◌%◌, ◌==◌, nat_lt, ◌&&◌, Bool, true, false, List, [], ◌∷◌, ◌++◌, slice_index_or, slice_set, if◌then◌else◌}
 use Rattle.std.specs.List.{fold, range_with_len}
+use Rattle.mpi_names.specs.declared.memory.TheConstants.{REPLY_FRAMES}
 use Rattle.mpi_names.specs.declared.memory.TheConstants.{FREE_RING_ENTRIES}
 use Rattle.mpt_trace.specs.declared.item.Down.{Down}
 use Rattle.mpt_trace.specs.declared.item.Down.TheVariants as down
@@ -11,7 +12,7 @@ use Rattle.mpt_rules.specs.Host.Parts.{Host}
 
 -- how many reply frames there are
 abbrev pub reply_frame_count : ℕ
-reply_frame_count = 64
+reply_frame_count = REPLY_FRAMES
 
 -- how many bytes each has
 abbrev pub frame_bytes : ℕ

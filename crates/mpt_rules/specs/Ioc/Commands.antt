@@ -1,6 +1,7 @@
 -- SCSI IOs: how one is refused or sent to its disk, and how its answer is made of what the fabric tells.
 use Rattle.std.specs.Prelude.{ℕ, ◌==◌, nat_lt, Bool, true, ◌&&◌, ◌||◌, not, if◌then◌else◌, List, [], ◌∷◌, length, map, Option, Some, None}
 use Rattle.std.specs.List.{filter}
+use Rattle.mpi_names.specs.declared.limit.TheConstants.{MAX_TRANSFER}
 use Rattle.mpi_rings.specs.declared.request_descriptor.PostKind.TheVariants as post
 use Rattle.mpt_messages.specs.HostFrames.{element_flags}
 use Rattle.mpt_messages.specs.IocFrames.{reply_frame}
@@ -48,7 +49,7 @@ element_differs frame = not (element_length_in frame == data_length_in frame)
 
 -- how many bytes the controller moves at most
 abbrev pub most_data : ℕ
-most_data = 4096
+most_data = MAX_TRANSFER
 
 -- there are more data than that
 abbrev pub is_too_long : List ℕ → Bool

@@ -2,6 +2,8 @@
 use Rattle.std.specs.Prelude.{ℕ, Bool, false, List, [], length, replicate, Option, None}
 use Rattle.std.specs.Ordering.{nat_cmp}
 use Rattle.std.specs.FinSet as set
+use Rattle.mpi_names.specs.declared.handle.TheConstants.{DISK_HANDLES}
+use Rattle.mpi_names.specs.declared.smid.TheConstants.{SMIDS}
 use Rattle.mpi_doorbell.specs.DoorRegisters.{DoorRegisters, new_registers}
 use Rattle.mpi_doorbell.specs.declared.state.IocState.{IocState}
 use Rattle.mpt_trace.specs.declared.item.Out.{Out}
@@ -63,12 +65,12 @@ new_ioc phys q =
       normal = [];
       up = replicate q [];
       out = [];
-      bindings = replicate 64 binding.Unbound;
+      bindings = replicate DISK_HANDLES binding.Unbound;
       waiting = [];
       ring = [];
       unacked = set.empty;
       context = 1;
-      requests = replicate 280 None;
+      requests = replicate SMIDS None;
       held = [];
       enabled = false;
       through = false;

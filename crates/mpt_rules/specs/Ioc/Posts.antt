@@ -1,6 +1,7 @@
 -- The host posts requests and returns reply frames: what is taken, and what the controller stops for.
 use Rattle.std.specs.Prelude.{ℕ, ◌+◌, ◌-◌, ◌/◌, ◌==◌, nat_lt, nat_le, Bool, ◌&&◌, ◌||◌, not, if◌then◌else◌, List, [], ◌∷◌, ◌++◌, Option, Some, None}
 use Rattle.std.specs.List.{list_any}
+use Rattle.mpi_names.specs.declared.memory.TheConstants.{REPLY_FRAMES}
 use Rattle.mpi_rings.specs.declared.request_descriptor.PostKind.{PostKind}
 use Rattle.mpi_rings.specs.declared.request_descriptor.PostKind.TheVariants as post
 use Rattle.mpt_wire.specs.Messages.Fields.{kind_in, reply_frame_address, smid_in}
@@ -68,7 +69,7 @@ frame_near address = (address - reply_frame_address 0) / 128
 
 -- the address is that of one of the 64 reply frames
 abbrev pub is_frame_address : ℕ → Bool
-is_frame_address address = reply_frame_address (frame_near address) == address && nat_lt (frame_near address) 64
+is_frame_address address = reply_frame_address (frame_near address) == address && nat_lt (frame_near address) REPLY_FRAMES
 
 -- the controller may use the reply frame
 abbrev pub frame_here : Ioc → ℕ → Bool

@@ -1,5 +1,6 @@
 -- The host reads and writes the controller's registers, and makes handshakes at the doorbell.
 use Rattle.std.specs.Prelude.{ℕ, ◌==◌, nat_le, ◌&&◌, not, Bool, if◌then◌else◌, List, [], ◌∷◌, take, slice_index, Option, Some, None}
+use Rattle.mpi_names.specs.declared.memory.TheConstants.{FRAME_DWORDS, FREE_RING_ENTRIES, POST_RING_ENTRIES}
 use Rattle.mpi_doorbell.specs.DoorRegisters.{answered, register_value, register_written}
 use Rattle.mpi_doorbell.specs.declared.effect.Effect.{Effect}
 use Rattle.mpi_doorbell.specs.declared.effect.Effect.TheVariants as effect
@@ -35,7 +36,8 @@ answers_handshake ioc r = record ioc { door = answered ioc.door (take (reply_len
 -- the sizes in an IOC Init are the profile's: frames of 32 dwords, rings of 352 and 80 entries
 abbrev pub sizes_fit : List ℕ → Bool
 sizes_fit message =
-    request_frame_size_in message == 32 && reply_post_queue_depth_in message == 352 && reply_free_queue_depth_in message == 80
+    request_frame_size_in message == FRAME_DWORDS && reply_post_queue_depth_in message == POST_RING_ENTRIES
+    && reply_free_queue_depth_in message == FREE_RING_ENTRIES
 
 -- an IOC Init asks for reply queues, and for no more than there are
 abbrev pub vectors_fit : Ioc → List ℕ → Bool

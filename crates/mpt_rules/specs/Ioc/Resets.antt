@@ -2,6 +2,8 @@
 use Rattle.std.specs.Prelude.{ℕ, ◌+◌, ◌%◌, ◌^◌, Bool, true, false, List, [], ◌∷◌, ◌++◌, map, replicate, None}
 use Rattle.std.specs.List.{filter}
 use Rattle.std.specs.FinSet as set
+use Rattle.mpi_names.specs.declared.handle.TheConstants.{DISK_HANDLES}
+use Rattle.mpi_names.specs.declared.smid.TheConstants.{SMIDS}
 use Rattle.mpi_doorbell.specs.DoorRegisters.{restarted}
 use Rattle.mpt_trace.specs.declared.entry.Entry.TheVariants as entry
 use Rattle.mpt_trace.specs.declared.item.Out.TheVariants as out
@@ -42,12 +44,12 @@ forgets ioc =
       normal = [];
       up = up_after_reset ioc;
       out = out.Link (next_generation ioc) ∷ [];
-      bindings = replicate 64 binding.Unbound;
+      bindings = replicate DISK_HANDLES binding.Unbound;
       waiting = [];
       ring = [];
       unacked = set.empty;
       context = 1;
-      requests = replicate 280 None;
+      requests = replicate SMIDS None;
       held = [];
       enabled = false;
       through = false;

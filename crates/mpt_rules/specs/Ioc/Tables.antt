@@ -1,6 +1,7 @@
 -- What the controller knows of its state, of identifiers and of device handles.
 use Rattle.std.specs.Prelude.{ℕ, zero, suc, ◌+◌, ◌-◌, ◌==◌, nat_le, Bool, true, false, ◌||◌, if◌then◌else◌, [], drop, slice_index_or, slice_set, Option, Some, None, is_some, option_map}
 use Rattle.std.specs.List.{list_any, position}
+use Rattle.mpi_names.specs.declared.handle.TheConstants.{FIRST_DISK_HANDLE}
 use Rattle.mpi_doorbell.specs.DoorRegisters.{DoorRegisters}
 use Rattle.mpi_doorbell.specs.declared.state.IocState.{IocState}
 use Rattle.mpi_doorbell.specs.declared.state.IocState.TheVariants as state
@@ -93,7 +94,7 @@ is_unanswered ioc smid = list_any (is_post_of smid) ioc.high || list_any (is_pos
 
 -- the least handle that a disk is given; the 64 from it on stand in the table
 abbrev pub first_handle : ℕ
-first_handle = 0x0009
+first_handle = FIRST_DISK_HANDLE
 
 -- what a handle stands for
 abbrev pub binding_of : Ioc → ℕ → Binding
