@@ -1,8 +1,8 @@
 -- What a topology event changes.
 use Rattle.std.proofs.Common.{◌≡◌, ℕ, Bool, true, false, cond, slice_index, refl}
 use Rattle.mpt_messages.specs.declared.ioc_reply.IocReply.TheVariants as reply
-use Rattle.mpt_rules.specs.IocBindings.{changes, tells_change}
-use Rattle.mpt_rules.specs.IocParts.{Ioc}
+use Rattle.mpt_rules.specs.Ioc.Bindings.{changes, tells_change}
+use Rattle.mpt_rules.specs.Ioc.Parts.{Ioc}
 use Rattle.ioc_core.specs.Disks.{context_after, noted, with_change}
 
 pub changes_is : (ioc : Ioc) (handle expander phy : ℕ) (added : Bool) →

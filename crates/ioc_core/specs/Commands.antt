@@ -2,10 +2,10 @@
 use Rattle.std.specs.Prelude.{◌≡◌, ℕ, true, None}
 use Rattle.mpt_messages.specs.Refusal.{request_refusal}
 use Rattle.mpt_messages.specs.declared.function.Kind.TheVariants as kind
-use Rattle.mpt_trace.specs.Fields.{dev_handle_in}
+use Rattle.mpt_wire.specs.Messages.Fields.{dev_handle_in}
 use Rattle.mpt_rules.specs.declared.post.Post.{Post}
-use Rattle.mpt_rules.specs.IocCommands.{command_in, sends_command}
-use Rattle.mpt_rules.specs.IocParts.{Ioc}
+use Rattle.mpt_rules.specs.Ioc.Commands.{command_in, sends_command}
+use Rattle.mpt_rules.specs.Ioc.Parts.{Ioc}
 use Rattle.ioc_tables.specs.Bindings.{is_table_handle}
 
 -- the post is a SCSI IO of a handle of the table

@@ -3,9 +3,9 @@ use Rattle.std.specs.Prelude.{◌≡◌, List, drop, slice_get, Option, Some, No
 use Rattle.mpt_messages.specs.declared.function.Kind.{Kind}
 use Rattle.mpt_messages.specs.Refusal.{request_refusal}
 use Rattle.mpt_rules.specs.declared.post.Post.{Post}
-use Rattle.mpt_rules.specs.IocParts.{Ioc}
-use Rattle.mpt_rules.specs.IocTables.{silently}
-use Rattle.mpt_rules.specs.Outcome.{Outcome}
+use Rattle.mpt_rules.specs.Ioc.Parts.{Ioc}
+use Rattle.mpt_rules.specs.Ioc.Tables.{silently}
+use Rattle.mpt_rules.specs.Outcome.{Happening}
 use Rattle.ioc_tables.specs.Queues.{Queues}
 use Rattle.ioc_core.specs.declared.front.Front.{Front}
 use Rattle.ioc_core.specs.declared.front.Front.TheVariants as front
@@ -41,12 +41,12 @@ done_if works f ioc (Some p) = works (without_front f ioc) p
 abbrev pub done : (Ioc → Post → Ioc) → Front → Ioc → Ioc
 done works f ioc = done_if works f ioc (first_of f ioc.high ioc.normal)
 
-abbrev pub outcome_if : (Ioc → Post → Outcome Ioc) → Front → Ioc → Option Post → Outcome Ioc
+abbrev pub outcome_if : (Ioc → Post → Happening Ioc) → Front → Ioc → Option Post → Happening Ioc
 outcome_if works f ioc None = silently ioc
 outcome_if works f ioc (Some p) = works (without_front f ioc) p
 
 -- the same where binds and unbinds are told
-abbrev pub outcome : (Ioc → Post → Outcome Ioc) → Front → Ioc → Outcome Ioc
+abbrev pub outcome : (Ioc → Post → Happening Ioc) → Front → Ioc → Happening Ioc
 outcome works f ioc = outcome_if works f ioc (first_of f ioc.high ioc.normal)
 
 -- the frame of the front, if there is one, stands for a request of this kind

@@ -8,10 +8,10 @@ use Rattle.mpt_trace.specs.declared.item.Back.TheVariants as back
 use Rattle.mpt_rules.specs.declared.at_fabric.HeldReset.{HeldReset}
 use Rattle.mpt_rules.specs.declared.said.Said.{Said}
 use Rattle.mpt_rules.specs.declared.status.TheConstants.{IOC_STATUS_SUCCESS}
-use Rattle.mpt_rules.specs.IocCommands.{held_answered, is_held_for}
-use Rattle.mpt_rules.specs.IocParts.{Ioc}
-use Rattle.mpt_rules.specs.IocReplies.{answers}
-use Rattle.mpt_rules.specs.IocTables.{without_request}
+use Rattle.mpt_rules.specs.Ioc.Commands.{held_answered, is_held_for}
+use Rattle.mpt_rules.specs.Ioc.Parts.{Ioc}
+use Rattle.mpt_rules.specs.Ioc.Replies.{ioc_answers}
+use Rattle.mpt_rules.specs.Ioc.Tables.{without_request}
 use Rattle.ioc_replies.specs.Outboxes.{waiting_for}
 
 -- a command was performed
@@ -22,7 +22,7 @@ is_result _ = false
 -- the port enable of this identifier is answered
 abbrev pub discovered_for : Ioc → Option ℕ → Ioc
 discovered_for ioc None = ioc
-discovered_for ioc (Some smid) = answers (without_request ioc smid) smid (reply.Plain (byte_of function.PortEnable) IOC_STATUS_SUCCESS)
+discovered_for ioc (Some smid) = ioc_answers (without_request ioc smid) smid (reply.Plain (byte_of function.PortEnable) IOC_STATUS_SUCCESS)
 
 -- the answers to the target resets that wait for the handle stand behind what waits for queue 0
 abbrev pub after_answers : ℕ → List HeldReset → List (List Said) → List (List Said)

@@ -1,5 +1,5 @@
 -- Where an identifier is, as the code names it.
-use Rattle.mpt_rules.specs.IocPlaces as rule
+use Rattle.mpt_rules.specs.Ioc.Places as rule
 use Rattle.ioc_core.specs.declared.queries.IocPlace.{IocPlace}
 use Rattle.ioc_core.specs.declared.queries.IocPlace.TheVariants.{HighQueue, NormalQueue, Fabric, UpOut}
 

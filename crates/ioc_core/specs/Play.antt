@@ -2,8 +2,8 @@
 use Rattle.std.specs.Prelude.{ℕ, ◌+◌, nat_lt, if◌then◌else◌, List, [], ◌∷◌, ◌++◌, Option, Some, None, option_map}
 use Rattle.mpt_trace.specs.declared.item.Out.{Out}
 use Rattle.mpt_trace.specs.declared.item.Up.{Up}
-use Rattle.mpt_rules.specs.Ioc.{front_out, front_up_on, out_sent, steps_high, steps_normal, takes_back, takes_down, up_sent_on}
-use Rattle.mpt_rules.specs.IocParts.{queues}
+use Rattle.mpt_rules.specs.Ioc.Takes.{front_out, front_up_on, out_sent, steps_high, steps_normal, takes_back, takes_down, up_sent_on}
+use Rattle.mpt_rules.specs.Ioc.Parts.{ioc_queue_count}
 use Rattle.ioc_core.specs.declared.play.IocMove.{IocMove}
 use Rattle.ioc_core.specs.declared.play.IocMove.TheVariants as move
 use Rattle.ioc_core.specs.declared.play.IocSaid.{IocSaid}
@@ -12,7 +12,7 @@ use Rattle.ioc_core.specs.Seen.{IocSeen, followed, stepped, with_part}
 
 -- the front of the lane of a reply queue; a queue that isn't there has none
 abbrev pub front_on : ℕ → IocSeen → Option Up
-front_on queue seen = if nat_lt queue (queues seen.part) then front_up_on seen.part queue else None
+front_on queue seen = if nat_lt queue (ioc_queue_count seen.part) then front_up_on seen.part queue else None
 
 abbrev pub after_front_up : ℕ → IocSeen → Option Up → IocSeen
 after_front_up queue seen None = seen

@@ -2,7 +2,7 @@
 use Rattle.std.specs.Prelude.{ℕ, nat_lt, if◌then◌else◌}
 use Rattle.mpi_rings.specs.declared.request_descriptor.PostKind.{PostKind}
 use Rattle.mpi_rings.specs.declared.request_descriptor.PostKind.TheVariants as post
-use Rattle.mpt_trace.specs.Fields.{msix_in}
+use Rattle.mpt_wire.specs.Messages.Fields.{msix_in}
 
 -- the reply queue that a request descriptor's MSIxIndex names, where IOC Init asked for so many: queue 0 for all others
 abbrev pub named_queue : ℕ → ℕ → ℕ

@@ -4,9 +4,9 @@ use Rattle.std.specs.FinSet as set
 use Rattle.mpi_doorbell.specs.DoorRegisters.{restarted}
 use Rattle.mpt_trace.specs.declared.entry.Entry.{Entry}
 use Rattle.mpt_rules.specs.declared.binding.Binding.TheVariants as binding
-use Rattle.mpt_rules.specs.IocParts.{Ioc}
+use Rattle.mpt_rules.specs.Ioc.Parts.{Ioc}
 use Rattle.ioc_tables.specs.Queues.{Queues}
-use Rattle.mpt_rules.specs.Outcome.{Called, Outcome}
+use Rattle.mpt_rules.specs.Outcome.{Called, Happening}
 
 -- the controller of the rules, and the binds and unbinds that it has still to tell
 pub record IocSeen : Type 0 where
@@ -18,7 +18,7 @@ abbrev pub with_part : Ioc → IocSeen → IocSeen
 with_part ioc seen = record seen { part = ioc }
 
 -- the controller after a case, whose entries it has still to tell
-abbrev pub followed : Outcome Ioc → IocSeen → IocSeen
+abbrev pub followed : Happening Ioc → IocSeen → IocSeen
 followed o seen = record { part = o.part; told = seen.told ++ o.entries }
 
 -- the same after a work step

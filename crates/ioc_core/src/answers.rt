@@ -1,7 +1,7 @@
 //! Answers to posts: the post leaves its queue as its answer goes into an outbox.
 ghost use Rattle.std.specs.Prelude.{◌≡◌, [], ◌∷◌, OnErr, OnOk};
 ghost use Rattle.mpt_messages.specs.IocFrames.{IsAnswer, reply_frame};
-ghost use Rattle.mpt_rules.specs.IocReplies.{framed, says_on};
+ghost use Rattle.mpt_rules.specs.Ioc.Replies.{framed, says_on};
 ghost use Rattle.mpt_rules.specs.declared.said.Said.TheVariants as said;
 ghost use Rattle.ioc_core.specs.Fronts.{without_front};
 ghost use Rattle.ioc_core.specs.Replies.{named_queue, queue_by};

@@ -1,7 +1,7 @@
 //! SCSI IOs: how one is refused, or sent to its disk.
 ghost use Rattle.std.specs.Prelude.{◌≡◌, Some, IfSome, OnErr, OnOk};
 ghost use Rattle.mpt_messages.specs.declared.function.Kind.TheVariants as kind;
-ghost use Rattle.mpt_rules.specs.IocCommands.{command_in, is_inconsistent, works_scsi, written_by};
+ghost use Rattle.mpt_rules.specs.Ioc.Commands.{command_in, is_inconsistent, works_scsi, written_by};
 ghost use Rattle.ioc_core.specs.Fronts.{IsReadAs, done, first_of};
 ghost use Rattle.ioc_core.specs.Commands.{IsSendable, sends_to};
 ghost use Rattle.ioc_core.specs.Seen.{with_part};

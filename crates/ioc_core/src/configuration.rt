@@ -1,6 +1,6 @@
 //! Configuration requests.
 ghost use Rattle.std.specs.Prelude.{◌≡◌, ◌<◌, ℕ, IfOk, OnErr, OnOk, option_map, slice_index, take};
-ghost use Rattle.mpt_rules.specs.IocConfiguration.{handle_asked, page_bytes, page_given, page_wanted, works_config};
+ghost use Rattle.mpt_rules.specs.Ioc.Configuration.{handle_asked, page_bytes, page_given, page_wanted, works_config};
 ghost use Rattle.ioc_core.specs.Fronts.{done};
 ghost use Rattle.ioc_core.specs.Seen.{with_part};
 

@@ -4,7 +4,7 @@ ghost use Rattle.std.specs.FinSet as set;
 ghost use Rattle.ioc_tables.specs.Bindings.{binding_at, is_gone};
 ghost use Rattle.mpt_messages.specs.IocFrames.{IsAnswer};
 ghost use Rattle.mpt_messages.specs.declared.ioc_reply.IocReply.TheVariants as reply;
-ghost use Rattle.mpt_rules.specs.IocBindings.{is_known, plugs, unplugs};
+ghost use Rattle.mpt_rules.specs.Ioc.Bindings.{is_known, ioc_plugs, ioc_unplugs};
 ghost use Rattle.mpt_trace.specs.declared.entry.Entry.TheVariants as entry;
 ghost use Rattle.ioc_core.specs.Fronts.{without_front};
 ghost use Rattle.ioc_core.specs.Disks.{context_after, noted, removes_by, with_change};
@@ -22,7 +22,7 @@ use std::alloc::Global;
 impl Ioc {
     // A disk is plugged.
     pub(crate) fn plug(&mut self, disk: Waiting) -> Result<(), OutOfMemory>
-        ensures ok { OnOk result (self.new ≡ followed (plugs self.old.part disk) self.old) }
+        ensures ok { OnOk result (self.new ≡ followed (ioc_plugs self.old.part disk) self.old) }
         ensures stays { OnErr result (self.new ≡ self.old) }
     {
         if self.is_known(disk.address) || usize::from(disk.expander) >= self.phys.len() {
@@ -56,7 +56,7 @@ impl Ioc {
 
     // The disk of an address is unplugged.
     pub(crate) fn unplug(&mut self, address: Address) -> Result<(), OutOfMemory>
-        ensures ok { OnOk result (self.new ≡ with_part (unplugs self.old.part address) self.old) }
+        ensures ok { OnOk result (self.new ≡ with_part (ioc_unplugs self.old.part address) self.old) }
         ensures stays { OnErr result (self.new ≡ self.old) }
     {
         let Some(handle) = self.bindings.handle_of(address) else {

@@ -1,6 +1,6 @@
 //! The fronts of the two queues.
 ghost use Rattle.std.specs.Prelude.{◌≡◌, IfSome, option_copied};
-ghost use Rattle.mpt_trace.specs.Fields.{smid_in};
+ghost use Rattle.mpt_wire.specs.Messages.Fields.{smid_in};
 ghost use Rattle.ioc_tables.specs.Queues.{IsIdentifier};
 ghost use Rattle.ioc_core.specs.Fronts.{first_of, popped};
 

@@ -2,7 +2,7 @@
 ghost use Rattle.std.specs.Prelude.{◌≡◌, ◌≤◌, ◌%◌, length};
 ghost use Rattle.mpi_doorbell.specs.Handshake.{IsAsked};
 ghost use Rattle.mpt_messages.specs.IocFrames.{IsAnswer, reply_length};
-ghost use Rattle.mpt_rules.specs.IocRegisters.{answers_handshake, handshakes, init_status, inits, port_facts_status, serves_handshake, sizes_fit, vectors_fit};
+ghost use Rattle.mpt_rules.specs.Ioc.Registers.{answers_handshake, handshakes, init_status, inits, port_facts_status, serves_handshake, sizes_fit, vectors_fit};
 ghost use Rattle.ioc_core.specs.Seen.{with_part};
 
 use crate::fields::{byte_at, short_at};

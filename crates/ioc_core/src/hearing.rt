@@ -2,11 +2,11 @@
 ghost use Rattle.std.specs.Prelude.{◌≡◌, ◌≤◌, false, not, IfErr, OnErr, OnOk, filter, length};
 ghost use Rattle.ioc_tables.specs.Requests.{enabling_smid};
 ghost use Rattle.mpt_messages.specs.IocFrames.{IsAnswer};
-ghost use Rattle.mpt_rules.specs.Ioc.{takes_back};
-ghost use Rattle.mpt_rules.specs.IocBack.{hears, is_heard, takes_aborted, takes_calm, takes_cleared, takes_end, takes_linked, takes_result};
-ghost use Rattle.mpt_rules.specs.IocCommands.{is_held_for, moved_by};
-ghost use Rattle.mpt_rules.specs.IocReplies.{answers};
-ghost use Rattle.mpt_rules.specs.IocTables.{request_at, without_request};
+ghost use Rattle.mpt_rules.specs.Ioc.Takes.{takes_back};
+ghost use Rattle.mpt_rules.specs.Ioc.Back.{hears, is_heard_in, takes_aborted, takes_calm, takes_cleared, takes_end, after_linked, takes_result};
+ghost use Rattle.mpt_rules.specs.Ioc.Commands.{is_held_for, moved_by};
+ghost use Rattle.mpt_rules.specs.Ioc.Replies.{ioc_answers};
+ghost use Rattle.mpt_rules.specs.Ioc.Tables.{request_at, without_request};
 ghost use Rattle.ioc_core.specs.Hearing.{after_answers, discovered_for, is_result};
 ghost use Rattle.ioc_core.specs.Seen.{followed, with_part};
 
@@ -54,7 +54,7 @@ impl Ioc {
 
     // Whether the item is heard.
     fn is_heard(&self, item: &Back) -> bool
-        ensures { result ≡ is_heard self.now.part.door.state item.now }
+        ensures { result ≡ is_heard_in self.now.part.door.state item.now }
     {
         match item {
             Back::Linked { .. } | Back::Calm => true,
@@ -185,7 +185,7 @@ impl Ioc {
     fn end_request(&mut self, smid: Smid, reply: IocReply) -> Result<(), OutOfMemory>
         requires { IsAnswer reply }
         ensures ok { OnOk result (self.new
-            ≡ with_part (answers (without_request self.old.part smid) smid reply) self.old) }
+            ≡ with_part (ioc_answers (without_request self.old.part smid) smid reply) self.old) }
         ensures stays { OnErr result (self.new ≡ self.old) }
     {
         self.up.reserve(1)?;
@@ -196,7 +196,7 @@ impl Ioc {
 
     // The fabric has linked.
     fn take_linked(&mut self, generation: u32)
-        ensures { self.new ≡ with_part (takes_linked self.old.part generation) self.old }
+        ensures { self.new ≡ with_part (after_linked self.old.part generation) self.old }
     {
         if matches!(self.door.state(), IocState::Reset) && generation == self.generation {
             self.door.linked();

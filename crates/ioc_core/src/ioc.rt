@@ -1,7 +1,7 @@
 //! The controller.
 ghost use Rattle.std.specs.Prelude.{◌≡◌, ◌≤◌, [], IfOk, drop, length, slice_get};
-ghost use Rattle.mpt_rules.specs.IocParts.{new_ioc};
-ghost use Rattle.mpt_rules.specs.IocPlaces.{ioc_quiet};
+ghost use Rattle.mpt_rules.specs.Ioc.Parts.{new_ioc};
+ghost use Rattle.mpt_rules.specs.Ioc.Places.{ioc_quiet};
 ghost use Rattle.ioc_core.specs.Seen.{forgotten, queues_of};
 ghost use Rattle.ioc_tables.specs.Queues.{AreApart};
 

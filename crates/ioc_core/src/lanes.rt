@@ -1,6 +1,6 @@
 //! The items of the lane down.
 ghost use Rattle.std.specs.Prelude.{◌≡◌, true, IfErr, IsOk, OnErr, OnOk};
-ghost use Rattle.mpt_rules.specs.Ioc.{takes_down};
+ghost use Rattle.mpt_rules.specs.Ioc.Takes.{takes_down};
 ghost use Rattle.ioc_core.specs.Seen.{followed};
 ghost use Rattle.ioc_core.specs.Lanes.{takes_no_memory};
 

@@ -1,9 +1,9 @@
 //! The host posts requests and returns reply frames.
 ghost use Rattle.std.specs.Prelude.{◌≡◌, true, false, MatchOption, OnErr, OnOk};
-ghost use Rattle.mpt_rules.specs.Ioc.{posts_if_operational, returns_if_operational, takes_stop};
-ghost use Rattle.mpt_rules.specs.IocPosts.{frame_near, is_frame_address, posts_as};
-ghost use Rattle.mpt_rules.specs.IocTables.{faults, is_at_fabric, is_operational, is_unanswered};
-ghost use Rattle.mpt_trace.specs.Fields.{kind_in};
+ghost use Rattle.mpt_rules.specs.Ioc.Takes.{posts_if_operational, returns_if_operational, takes_stop};
+ghost use Rattle.mpt_rules.specs.Ioc.Posts.{frame_near, is_frame_address, posts_as};
+ghost use Rattle.mpt_rules.specs.Ioc.Tables.{faults, is_at_fabric, is_operational, is_unanswered};
+ghost use Rattle.mpt_wire.specs.Messages.Fields.{kind_in};
 ghost use Rattle.ioc_core.specs.Seen.{with_part};
 
 use crate::ioc::Ioc;

@@ -1,8 +1,8 @@
 //! Where things are at the controller.
 ghost use Rattle.std.specs.Prelude.{◌≡◌, option_map};
-ghost use Rattle.mpt_rules.specs.IocPosts.{frame_here};
-ghost use Rattle.mpt_rules.specs.IocPlaces.{smid_at};
-ghost use Rattle.mpt_rules.specs.IocTables.{binding_of};
+ghost use Rattle.mpt_rules.specs.Ioc.Posts.{frame_here};
+ghost use Rattle.mpt_rules.specs.Ioc.Places.{smid_at};
+ghost use Rattle.mpt_rules.specs.Ioc.Tables.{binding_of};
 ghost use Rattle.ioc_core.specs.Places.{place_of};
 
 use crate::ioc::Ioc;

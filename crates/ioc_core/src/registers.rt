@@ -1,6 +1,6 @@
 //! The host reads and writes the controller's registers.
 ghost use Rattle.std.specs.Prelude.{◌≡◌, OnErr, OnOk};
-ghost use Rattle.mpt_rules.specs.IocRegisters.{reads, writes};
+ghost use Rattle.mpt_rules.specs.Ioc.Registers.{after_read, writes};
 ghost use Rattle.ioc_core.specs.Seen.{followed, with_part};
 
 use crate::ioc::Ioc;
@@ -11,7 +11,7 @@ use mpt_trace::{Entry, Out};
 impl Ioc {
     // A register is read.
     pub(crate) fn read(&mut self, reg: u16) -> Result<(), OutOfMemory>
-        ensures ok { OnOk result (self.new ≡ with_part (reads self.old.part reg) self.old) }
+        ensures ok { OnOk result (self.new ≡ with_part (after_read self.old.part reg) self.old) }
         ensures stays { OnErr result (self.new ≡ self.old) }
     {
         self.up.reserve(1)?;

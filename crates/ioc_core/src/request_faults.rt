@@ -2,7 +2,7 @@
 ghost use Rattle.std.specs.Prelude.{◌≡◌, ◌≤◌, ◌<◌, length, slice_index};
 ghost use Rattle.mpi_layout.specs.Rows.{first_fault};
 ghost use Rattle.mpt_messages.specs.Refusal.{request_fault, request_refusal, request_refusal_as};
-ghost use Rattle.mpt_rules.specs.IocReplies.{refusal_status};
+ghost use Rattle.mpt_rules.specs.Ioc.Replies.{refusal_status};
 
 use config_pages::ConfigAsk;
 use event_msgs::{EventAck, EventAsk};

@@ -1,7 +1,7 @@
 //! The other requests of the default kind.
 ghost use Rattle.std.specs.Prelude.{◌≡◌, OnErr, OnOk};
 ghost use Rattle.mpt_messages.specs.declared.ioc_reply.IocReply.TheVariants as reply;
-ghost use Rattle.mpt_rules.specs.IocRequests.{works_ack, works_enable, works_notification, works_unit_control};
+ghost use Rattle.mpt_rules.specs.Ioc.Requests.{works_ack, works_enable, works_notification, works_unit_control};
 ghost use Rattle.ioc_core.specs.Fronts.{done, outcome};
 ghost use Rattle.ioc_core.specs.Seen.{followed, with_part};
 

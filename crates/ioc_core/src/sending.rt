@@ -1,8 +1,8 @@
 //! What the controller puts on its lanes.
 ghost use Rattle.std.specs.Prelude.{◌≡◌, ◌<◌, Some, IfOk, IsSome, length, option_copied, slice_get};
-ghost use Rattle.mpt_rules.specs.IocSending.{front_out, front_up_on, out_sent, takes_frame, up_of, up_sent_on};
-ghost use Rattle.mpt_trace.specs.Fields.{address_descriptor, reply_frame_address, success_descriptor};
-ghost use Rattle.mpt_rules.specs.IocParts.{queues};
+ghost use Rattle.mpt_rules.specs.Ioc.Sending.{front_out, front_up_on, out_sent, needs_frame, up_of, up_sent_on};
+ghost use Rattle.mpt_wire.specs.Messages.Fields.{address_descriptor, reply_frame_address, success_descriptor};
+ghost use Rattle.mpt_rules.specs.Ioc.Parts.{ioc_queue_count};
 ghost use Rattle.ioc_core.specs.Seen.{with_part};
 
 use crate::ioc::Ioc;
@@ -24,7 +24,7 @@ impl Ioc {
     /// A copy of what is put next on the lane of a reply queue. None exactly where nothing waits for the queue, or a
     /// reply that needs a frame is next while the reply free ring is empty.
     pub fn front_up_on(&self, queue: u8) -> Result<Option<Up>, OutOfMemory>
-        requires { queue < queues self.now.part }
+        requires { queue < ioc_queue_count self.now.part }
         ensures { IfOk result (λ up. up ≡ front_up_on self.now.part queue) }
     {
         match self.up.front(queue) {
@@ -43,7 +43,7 @@ impl Ioc {
 
     /// What `front_up_on` gives was put. There is something to be put.
     pub fn sent_up_on(&mut self, queue: u8)
-        requires queue { queue < queues self.old.part }
+        requires queue { queue < ioc_queue_count self.old.part }
         requires front { IsSome (front_up_on self.old.part queue) }
         ensures { self.new ≡ with_part (up_sent_on self.old.part queue) self.old }
     {
@@ -73,7 +73,7 @@ impl Ioc {
 
 // Whether the item takes a reply frame.
 fn takes_frame(front: Option<&Said>) -> bool
-    ensures { result ≡ takes_frame (option_copied front.entry) }
+    ensures { result ≡ needs_frame (option_copied front.entry) }
 {
     matches!(front, Some(Said::Framed { .. }))
 }

@@ -2,9 +2,9 @@
 ghost use Rattle.std.specs.Prelude.{◌≡◌, OnErr, OnOk};
 ghost use Rattle.ioc_tables.specs.Queues.{IsIdentifier};
 ghost use Rattle.mpt_messages.specs.declared.ioc_reply.IocReply.TheVariants as reply;
-ghost use Rattle.mpt_rules.specs.IocReplies.{task_ended};
-ghost use Rattle.mpt_rules.specs.IocTables.{binding_of, is_command_of};
-ghost use Rattle.mpt_rules.specs.IocTasks.{aborts, resets_gone, resets_target, works_task};
+ghost use Rattle.mpt_rules.specs.Ioc.Replies.{task_ended};
+ghost use Rattle.mpt_rules.specs.Ioc.Tables.{binding_of, is_command_of};
+ghost use Rattle.mpt_rules.specs.Ioc.Tasks.{ioc_aborts, resets_gone, ioc_resets_target, works_task};
 ghost use Rattle.ioc_core.specs.Fronts.{done, without_front};
 ghost use Rattle.ioc_core.specs.Seen.{with_part};
 
@@ -75,7 +75,7 @@ impl Ioc {
     ) -> Result<(), OutOfMemory>
         requires { IsIdentifier smid }
         ensures ok { OnOk result (self.new
-            ≡ with_part (aborts (without_front front self.old.part) smid task handle) self.old) }
+            ≡ with_part (ioc_aborts (without_front front self.old.part) smid task handle) self.old) }
         ensures stays { OnErr result (self.new ≡ self.old) }
     {
         self.up.reserve(2)?;
@@ -110,7 +110,7 @@ impl Ioc {
     ) -> Result<(), OutOfMemory>
         requires { IsIdentifier smid }
         ensures ok { OnOk result (self.new
-            ≡ with_part (resets_target (without_front front self.old.part) smid handle (binding_of self.old.part handle)) self.old) }
+            ≡ with_part (ioc_resets_target (without_front front self.old.part) smid handle (binding_of self.old.part handle)) self.old) }
         ensures stays { OnErr result (self.new ≡ self.old) }
     {
         match self.bindings.get(handle) {

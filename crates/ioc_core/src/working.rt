@@ -1,6 +1,6 @@
 //! The work steps: each processes the front of one of the queues.
 ghost use Rattle.std.specs.Prelude.{◌≡◌, IfOk, OnErr, OnOk};
-ghost use Rattle.mpt_rules.specs.IocSteps.{steps_high, steps_normal, way_of, works_on};
+ghost use Rattle.mpt_rules.specs.Ioc.Steps.{steps_high, steps_normal, way_of, works_on};
 ghost use Rattle.ioc_core.specs.Fronts.{outcome};
 ghost use Rattle.ioc_core.specs.Defaults.{works_by_function};
 ghost use Rattle.ioc_core.specs.Seen.{followed, stepped};

@@ -6,7 +6,7 @@ use Rattle.std.proofs.lemmas.List.{get_or-map, get_or-set_other, get_or-set_same
 use Rattle.std.proofs.lemmas.List.Sums.{AllPass-from_list_all, list_all-from_AllPass}
 use Rattle.mpt_rules.specs.declared.said.Said.{Said}
 use Rattle.mpt_rules.specs.declared.said.Said.TheVariants as said
-use Rattle.mpt_rules.specs.IocResets.{marked, outlives_reset}
+use Rattle.mpt_rules.specs.Ioc.Resets.{marked, outlives_reset}
 use Rattle.ioc_replies.specs.Outboxes.{HaveRoom, OutboxSeen, has_room, items_in, renewed}
 
 abbrev pub nowhere : OutboxSeen

@@ -3,7 +3,7 @@ use Rattle.std.specs.Prelude.{◌≡◌, ℕ, ◌≤◌, nat_le, Bool, true, fal
 use Rattle.std.specs.List.{filter, list_all}
 use Rattle.mpt_rules.specs.declared.said.Said.{Said}
 use Rattle.mpt_rules.specs.declared.said.Said.TheVariants as said
-use Rattle.mpt_rules.specs.IocResets.{outlives_reset}
+use Rattle.mpt_rules.specs.Ioc.Resets.{outlives_reset}
 
 -- one outbox: what waits in it, and for how many items more there is room
 pub record OutboxSeen : Type 0 where

@@ -1,8 +1,8 @@
 //! The outbox of one reply queue.
 ghost use Rattle.std.specs.Prelude.{◌≡◌, ◌≤◌, ◌<◌, ◌+◌, ◌++◌, ◌∷◌, [], OnErr, OnOk, drop, filter, option_copied, slice_get};
 ghost use Rattle.std.specs.List.{list_any};
-ghost use Rattle.mpt_rules.specs.IocPlaces.{is_empty, is_reply_of};
-ghost use Rattle.mpt_rules.specs.IocResets.{outlives_reset};
+ghost use Rattle.mpt_rules.specs.Ioc.Places.{is_empty, is_reply_of};
+ghost use Rattle.mpt_rules.specs.Ioc.Resets.{outlives_reset};
 
 use mpt_rules::{OutOfMemory, Said};
 use mpt_trace::Smid;

@@ -1,8 +1,8 @@
 //! The outboxes of all reply queues.
 ghost use Rattle.std.specs.Prelude.{◌≡◌, ◌≤◌, ◌<◌, ◌-◌, ℕ, [], true, IfOk, OnErr, OnOk, drop, filter, length, map, option_copied, replicate, slice_get, slice_set};
 ghost use Rattle.std.specs.List.{list_all, list_any};
-ghost use Rattle.mpt_rules.specs.IocPlaces.{is_empty, is_reply_of};
-ghost use Rattle.mpt_rules.specs.IocResets.{marked, outlives_reset};
+ghost use Rattle.mpt_rules.specs.Ioc.Places.{is_empty, is_reply_of};
+ghost use Rattle.mpt_rules.specs.Ioc.Resets.{marked, outlives_reset};
 ghost use Rattle.ioc_replies.specs.Outboxes.{after_put, has_room, items_in, renewed, waiting_for};
 
 use crate::outbox::Outbox;

@@ -1,8 +1,8 @@
 //! The replies that the controller makes.
 ghost use Rattle.std.specs.Prelude.{◌≡◌, []};
 ghost use Rattle.mpt_messages.specs.IocFrames.{IsAnswer, reply_frame};
-ghost use Rattle.mpt_rules.specs.IocReplies.{framed};
-ghost use Rattle.mpt_rules.specs.IocCommands.{result_said, result_status};
+ghost use Rattle.mpt_rules.specs.Ioc.Replies.{framed};
+ghost use Rattle.mpt_rules.specs.Ioc.Commands.{result_said, result_status};
 ghost use Rattle.mpt_rules.specs.declared.said.Said.TheVariants as said;
 
 use mpt_messages::{IocReply, ioc_frame};

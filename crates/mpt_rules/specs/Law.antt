@@ -6,37 +6,37 @@ use Rattle.mpt_trace.specs.declared.entry.Entry.{Entry}
 use Rattle.mpt_trace.specs.declared.entry.Entry.TheVariants as entry
 use Rattle.mpt_trace.specs.declared.host_state.HostState.TheVariants as state
 use Rattle.mpt_trace.specs.declared.item.Up.{Up}
-use Rattle.mpt_trace.specs.Lanes.{LanesInOrder}
-use Rattle.mpt_trace.specs.Identifiers.{IdentifiersInCycles, ClassesKept}
-use Rattle.mpt_trace.specs.LeastFree.{LeastAreAccepted}
-use Rattle.mpt_trace.specs.Frames.{FramesInCycles}
-use Rattle.mpt_trace.specs.Plugs.{PlugsAreServed}
-use Rattle.mpt_trace.specs.Removals.{UnbindsAreRemovals}
-use Rattle.mpt_trace.specs.Leaving.{RemovesWhatLeft}
-use Rattle.mpt_trace.specs.Pages.{PagesAreOfBindings, PostsGoToPages}
-use Rattle.mpt_trace.specs.Tasks.{TasksGoToBindings}
-use Rattle.mpt_trace.specs.FitsSchedule.{FitsSchedule}
-use Rattle.mpt_trace.specs.FitsTies.{IsTied}
-use Rattle.mpt_trace.specs.Lines.{Line, Asked, Stepped, Drained}
+use Rattle.mpt_wire.specs.Queues.Lanes.{LanesInOrder}
+use Rattle.mpt_wire.specs.Queues.Identifiers.{IdentifiersInCycles, ClassesKept}
+use Rattle.mpt_wire.specs.Queues.LeastFree.{LeastAreAccepted}
+use Rattle.mpt_wire.specs.Queues.Frames.{FramesInCycles}
+use Rattle.mpt_wire.specs.Handles.Plugs.{PlugsAreServed}
+use Rattle.mpt_wire.specs.Handles.Removals.{UnbindsAreRemovals}
+use Rattle.mpt_wire.specs.Handles.Leaving.{RemovesWhatLeft}
+use Rattle.mpt_wire.specs.Handles.Pages.{PagesAreOfBindings, PostsGoToPages}
+use Rattle.mpt_wire.specs.Handles.Tasks.{TasksGoToBindings}
+use Rattle.mpt_wire.specs.Fits.Schedule.{FitsSchedule}
+use Rattle.mpt_wire.specs.Fits.Ties.{IsTied}
+use Rattle.mpt_wire.specs.Fits.Lines.{Line, Asked, Stepped, Drained}
 use Rattle.mpt_trace.specs.ReadingSchedule.{IsInput}
-use Rattle.mpt_trace.specs.Marks.{RepliesOnTheirLanes, LanesAreMarked}
-use Rattle.mpt_trace.specs.Messages as messages
-use Rattle.mpt_trace.specs.DoorbellWords.{DoorbellTalks}
-use Rattle.mpt_trace.specs.Paths.{IsOnPaths}
-use Rattle.mpt_trace.specs.Replies.{RepliesTell}
-use Rattle.mpt_trace.specs.TerminationCounts.{AreCounted}
-use Rattle.mpt_trace.specs.Stops.{StopsAreTold}
-use Rattle.mpt_trace.specs.ReadyDisks.{ReadyArePlugged}
-use Rattle.mpt_trace.specs.View.{ViewIsRun, machine_after}
-use Rattle.mpt_rules.specs.Outcome.{Outcome}
-use Rattle.mpt_rules.specs.Replays.{replays}
-use Rattle.mpt_rules.specs.Settings.{IsCase, NamesWhatIsThere, Setting, IsSetting, first_world}
-use Rattle.mpt_rules.specs.Host.{takes_up}
-use Rattle.mpt_rules.specs.World.{World, up_on}
-use Rattle.mpt_rules.specs.Cases.{Case, Told, Chosen, HostLooks, HostStops, FabricCalms, run, trace}
-use Rattle.mpt_rules.specs.Drain.{world_quiet, drains}
-use Rattle.mpt_rules.specs.PlaceCounts.{frame_count, smid_count}
-use Rattle.mpt_rules.specs.Sessions.{EndsQuiet, IsSession, Session, last_host, session_trace}
+use Rattle.mpt_wire.specs.Queues.Marks.{RepliesOnTheirLanes, LanesAreMarked}
+use Rattle.mpt_wire.specs.Messages.Standing as messages
+use Rattle.mpt_wire.specs.Messages.DoorbellWords.{DoorbellTalks}
+use Rattle.mpt_wire.specs.Paths.Commands.{IsOnPaths}
+use Rattle.mpt_wire.specs.Paths.Replies.{RepliesTell}
+use Rattle.mpt_wire.specs.Paths.TerminationCounts.{AreCounted}
+use Rattle.mpt_wire.specs.Paths.Stops.{StopsAreTold}
+use Rattle.mpt_wire.specs.Machine.ReadyDisks.{ReadyArePlugged}
+use Rattle.mpt_wire.specs.Machine.View.{ViewIsRun, machine_after}
+use Rattle.mpt_rules.specs.Outcome.{Happening}
+use Rattle.mpt_rules.specs.World.Replays.{replays}
+use Rattle.mpt_rules.specs.World.Settings.{IsCase, NamesWhatIsThere, Setting, IsSetting, first_world}
+use Rattle.mpt_rules.specs.Host.Takes.{takes_up}
+use Rattle.mpt_rules.specs.World.State.{World, up_on}
+use Rattle.mpt_rules.specs.World.Cases.{Case, Told, Chosen, HostLooks, HostStops, FabricCalms, run, trace}
+use Rattle.mpt_rules.specs.World.Drain.{world_quiet, drains}
+use Rattle.mpt_rules.specs.World.PlaceCounts.{frame_count, smid_count}
+use Rattle.mpt_rules.specs.Session.Sessions.{EndsQuiet, IsSession, Session, last_host, session_trace}
 
 -- ---- of every trace
 
@@ -207,7 +207,7 @@ IsLine s (Stepped choice count) = Unit {0}
 IsLine s Drained = Unit {0}
 
 -- what a schedule leaves is what a list of cases leaves, so that the law holds of it
-pub record IsOfCases (s : Setting) (o : Outcome World) : Type 0 where
+pub record IsOfCases (s : Setting) (o : Happening World) : Type 0 where
   pub cases : List Case
   pub allowed : All IsCase cases
   pub traced : o.entries ≡ trace (first_world s) cases

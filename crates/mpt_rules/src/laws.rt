@@ -2,16 +2,16 @@
 ghost use Rattle.std.specs.Prelude.{ℕ, List};
 ghost use Rattle.mpt_trace.specs.declared.disk_spec.DiskSpec.{DiskSpec};
 ghost use Rattle.mpt_trace.specs.declared.entry.Entry.{Entry};
-ghost use Rattle.mpt_trace.specs.Ahead.{PassesAhead};
-ghost use Rattle.mpt_trace.specs.Frames.{FramesInCycles, FramesPass};
-ghost use Rattle.mpt_trace.specs.HandlesOnWire.{HandlesOnWire, HandlesPass, MessagesOnWire, MessagesPass, QueuesOnWire, QueuesPass};
-ghost use Rattle.mpt_trace.specs.Identifiers.{IdentifiersInCycles, IdentifiersPass};
-ghost use Rattle.mpt_trace.specs.Lanes.{LanesInOrder, LanesPass};
-ghost use Rattle.mpt_trace.specs.LeastFree.{LeastAreAccepted, LeastPass};
-ghost use Rattle.mpt_trace.specs.Lives.{HaveOneLife};
-ghost use Rattle.mpt_trace.specs.Machine.{IsRun, Step};
-ghost use Rattle.mpt_trace.specs.PathRules.{PathsKept, PathsPass};
-ghost use Rattle.mpt_trace.specs.View.{SeenAsks, ViewIsRun, first_seen, seen_next};
+ghost use Rattle.mpt_wire.specs.Walks.Ahead.{PassesAhead};
+ghost use Rattle.mpt_wire.specs.Queues.Frames.{FramesInCycles, FramesPass};
+ghost use Rattle.mpt_wire.specs.OnWire.{HandlesOnWire, HandlesPass, MessagesOnWire, MessagesPass, QueuesOnWire, QueuesPass};
+ghost use Rattle.mpt_wire.specs.Queues.Identifiers.{IdentifiersInCycles, IdentifiersPass};
+ghost use Rattle.mpt_wire.specs.Queues.Lanes.{LanesInOrder, LanesPass};
+ghost use Rattle.mpt_wire.specs.Queues.LeastFree.{LeastAreAccepted, LeastPass};
+ghost use Rattle.mpt_wire.specs.Machine.Lives.{HaveOneLife};
+ghost use Rattle.mpt_wire.specs.Machine.Steps.{IsRun, Step};
+ghost use Rattle.mpt_wire.specs.Paths.Rules.{PathsKept, PathsPass};
+ghost use Rattle.mpt_wire.specs.Machine.View.{SeenAsks, ViewIsRun, first_seen, seen_next};
 
 /// Every run of the machine of disks gives each request one life at most: it is accepted, runs at most once, at the disk
 /// that it was accepted for, and has at most one answer, the last of all. Done answers one that ran, Gone and Terminated

@@ -1,9 +1,9 @@
-use Rattle.mpt_trace.proofs.HandlesOnWire.{handles_on_wire, messages_on_wire, queues_on_wire}
-use Rattle.mpt_trace.proofs.Lanes.{lanes_in_order}
-use Rattle.mpt_trace.proofs.LeastFree.{least_are_accepted}
-use Rattle.mpt_trace.proofs.PathRules.{paths_kept}
-use Rattle.mpt_trace.proofs.Views.{view_is_run}
-use Rattle.mpt_trace.proofs.WireCycles.{frames_in_cycles, identifiers_in_cycles}
+use Rattle.mpt_wire.proofs.HandlesOnWire.{handles_on_wire, messages_on_wire, queues_on_wire}
+use Rattle.mpt_wire.proofs.Lanes.{lanes_in_order}
+use Rattle.mpt_wire.proofs.LeastFree.{least_are_accepted}
+use Rattle.mpt_wire.proofs.PathRules.{paths_kept}
+use Rattle.mpt_wire.proofs.Views.{view_is_run}
+use Rattle.mpt_wire.proofs.WireCycles.{frames_in_cycles, identifiers_in_cycles}
 use Rattle.mpt_rules.proofs.laws.passing_keeps_the_rules.Goals as goal
 
 pub returns : goal.returns

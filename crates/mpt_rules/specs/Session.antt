@@ -1,0 +1,4 @@
+-- Sessions: each party's cases for themselves, journals, and their merge.
+pub mod Journals
+pub mod OpenCases
+pub mod Sessions
