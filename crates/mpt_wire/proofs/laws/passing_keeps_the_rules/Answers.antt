@@ -4,7 +4,7 @@ use Rattle.mpt_wire.proofs.LeastFree.{least_are_accepted}
 use Rattle.mpt_wire.proofs.PathRules.{paths_kept}
 use Rattle.mpt_wire.proofs.Views.{view_is_run}
 use Rattle.mpt_wire.proofs.WireCycles.{frames_in_cycles, identifiers_in_cycles}
-use Rattle.mpt_rules.proofs.laws.passing_keeps_the_rules.Goals as goal
+use Rattle.mpt_wire.proofs.laws.passing_keeps_the_rules.Goals as goal
 
 pub returns : goal.returns
 returns c =
