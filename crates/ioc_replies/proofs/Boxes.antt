@@ -1,13 +1,14 @@
 -- The outboxes one by one.
-use Rattle.std.proofs.Common.{◌≡◌, ◌≢◌, ℕ, zero, suc, ◌+◌, ◌-◌, ◌<◌, ◌≤◌, Bool, true, false, ltb, List, [], ◌∷◌, ◌++◌, length, map, get_or, set, filter, refl, sym, ap, ◌∙◌, inl, inr, arith}
-use Rattle.std.specs.List.{list_all}
-use Rattle.std.proofs.lemmas.Bool.{cases_eq, le-leb, leb-true}
-use Rattle.std.proofs.lemmas.List.{get_or-map, get_or-set_other, get_or-set_same, length-map, length-set, map-set, same_lists, set_past}
-use Rattle.std.proofs.lemmas.List.Sums.{AllPass-from_list_all, list_all-from_AllPass}
+use Rattle.std.proofs.Common.{◌≡◌, ◌≢◌, ℕ, zero, suc, ◌+◌, ◌-◌, ◌<◌, ◌≤◌, Bool, true, false, ◌&&◌, ◌||◌, ltb, List, [], ◌∷◌, ◌++◌, length, map, get_or, set, drop, filter, replicate, refl, sym, ap, ◌∙◌, inl, inr, arith}
+use Rattle.std.specs.List.{list_all, list_any}
+use Rattle.std.proofs.lemmas.Bool.{cases_eq, le-leb, leb-true, lt-ltb}
+use Rattle.std.proofs.lemmas.List.{get_or-map, get_or_default, get_or-set_other, get_or-set_same, length-map, length-replicate, length-set, map-set, same_lists, set_past}
+use Rattle.std.proofs.lemmas.List.Sums.{AllPass-from_list_all}
 use Rattle.mpt_rules.specs.declared.said.Said.{Said}
 use Rattle.mpt_rules.specs.declared.said.Said.TheVariants as said
+use Rattle.mpt_rules.specs.Ioc.Places.{is_empty, is_reply_of}
 use Rattle.mpt_rules.specs.Ioc.Resets.{marked, outlives_reset}
-use Rattle.ioc_replies.specs.Outboxes.{HaveRoom, OutboxSeen, has_room, items_in, renewed}
+use Rattle.ioc_replies.specs.Outboxes.{HaveRoom, OutboxSeen, after_put, has_room, items_in, renewed, waiting_for}
 
 abbrev pub nowhere : OutboxSeen
 nowhere = record { items = []; spare = 0 }
@@ -66,17 +67,17 @@ pub grown_items : (xs ys : List OutboxSeen) → AreGrown xs ys → map items_in 
 grown_items xs ys grown =
     same_lists (map items_in ys) (map items_in xs) (length-map ys items_in ∙ grown.size ∙ sym (length-map xs items_in))
     (λ k d below.
-      let within : k < length ys = rw (length-map ys items_in) at below in
-      get_or-map items_in ys k nowhere d within ∙ grown.items k ∙ sym (get_or-map items_in xs k nowhere d (rw grown.size at within)))
+    let within : k < length ys = rw (length-map ys items_in) at below in
+    get_or-map items_in ys k nowhere d within ∙ grown.items k ∙ sym (get_or-map items_in xs k nowhere d (rw grown.size at within)))
 
 -- and what had room has it
 pub grown_keeps : (xs ys : List OutboxSeen) → AreGrown xs ys → (room : ℕ) → list_all (has_room room) xs ≡ true → list_all (has_room room) ys ≡ true
 grown_keeps xs ys grown room all =
     room_of room ys
     (λ k below.
-      let was = room_at room xs all k (rw grown.size at below) in
-      let more = grown.spare k in
-      omega (arith, was, more))
+    let was = room_at room xs all k (rw grown.size at below) in
+    let more = grown.spare k in
+    omega (arith, was, more))
 
 -- ---- a reset
 
@@ -111,7 +112,7 @@ renewed_more generation xs ys i o within now before =
 marked_at : (generation : ℕ) (boxes : List (List Said)) (k : ℕ) → k < length boxes → (d : List Said) → get_or (marked generation (map (filter outlives_reset) boxes)) k d ≡ renewed (ltb 0 k) generation (get_or boxes k d)
 marked_at generation [] k below d = absurd (omega arith)
 marked_at generation (x ∷ boxes) zero below d = refl
-marked_at generation (x ∷ boxes) (suc k) below d = others boxes k (omega arith)
+marked_at generation (x ∷ boxes) (suc k) below d = rw (lt-ltb 0 (suc k) (omega arith)) (others boxes k (omega arith))
   where
     others : (rest : List (List Said)) (j : ℕ) → j < length rest → get_or (map (λ outbox. outbox ++ said.Mark generation ∷ []) (map (filter outlives_reset) rest)) j d ≡ filter outlives_reset (get_or rest j d) ++ said.Mark generation ∷ []
     others [] j below = absurd (omega arith)
@@ -128,12 +129,12 @@ renewed_all generation xs ys i past all =
     same_lists (map items_in ys) (marked generation (map (filter outlives_reset) (map items_in xs)))
     (length-map ys items_in ∙ all.size ∙ sym (length-map xs items_in) ∙ sym (marked_length generation (map items_in xs)))
     (λ k d below.
-      let within : k < length ys = rw (length-map ys items_in) at below in
-      let inside : k < length xs = rw all.size at within in
-      get_or-map items_in ys k nowhere d within
-      ∙ all.done k (omega arith) inside
-      ∙ ap (λ (items : List Said). renewed (ltb 0 k) generation items) (sym (get_or-map items_in xs k nowhere d inside))
-      ∙ sym (marked_at generation (map items_in xs) k (rw (length-map xs items_in) inside) d))
+    let within : k < length ys = rw (length-map ys items_in) at below in
+    let inside : k < length xs = rw all.size at within in
+    get_or-map items_in ys k nowhere d within
+    ∙ all.done k (omega arith) inside
+    ∙ ap (λ (items : List Said). renewed (ltb 0 k) generation items) (sym (get_or-map items_in xs k nowhere d inside))
+    ∙ sym (marked_at generation (map items_in xs) k (rw (length-map xs items_in) inside) d))
 
 -- ---- room
 
@@ -181,3 +182,50 @@ items_set boxes i o items is = map-set items_in boxes i o ∙ ap (λ (xs : List 
 -- no outbox changes
 pub items_past : (boxes : List OutboxSeen) (i : ℕ) (items : List Said) → length boxes ≤ i → map items_in boxes ≡ set (map items_in boxes) i items
 items_past boxes i items past = sym (set_past (map items_in boxes) i items (rw (length-map boxes items_in) past))
+
+-- there is room for fewer
+pub room_least : (boxes : List OutboxSeen) (room left : ℕ) → HaveRoom boxes room → left ≤ room → list_all (has_room left) boxes ≡ true
+room_least boxes room left have less = room_of left boxes (λ k below. let was = room_at room boxes have.each k below in omega (arith, was, less))
+
+-- an outbox changes, by what was there
+pub room_changed : (boxes : List OutboxSeen) (room left i : ℕ) (was o : OutboxSeen) → HaveRoom boxes room → left ≤ room → i < length boxes → ((get_or boxes i was).spare ≤ o.spare + (room - left)) → HaveRoom (set boxes i o) left
+room_changed boxes room left i was o have less within fits =
+    let at = ap (λ (x : OutboxSeen). x.spare) (get_or_default boxes i was nowhere within) in
+    let had = room_at room boxes have.each i within in
+    room_set boxes room left i o have less (omega (arith, at, had, fits, less)) within
+
+pub put_there : (boxes : List OutboxSeen) (i : ℕ) (was o : OutboxSeen) (item : Said) → i < length boxes → o.items ≡ (get_or boxes i was).items ++ item ∷ [] → map items_in (set boxes i o) ≡ after_put i item (map items_in boxes)
+put_there boxes i was o item within is =
+    items_set boxes i o (waiting_for i (map items_in boxes) ++ item ∷ [])
+    (is ∙ ap (λ (xs : List Said). xs ++ item ∷ []) (ap items_in (get_or_default boxes i was nowhere within) ∙ sym (items_at boxes i within [])))
+
+pub pop_there : (boxes : List OutboxSeen) (i : ℕ) (was o : OutboxSeen) → i < length boxes → o.items ≡ drop 1 (get_or boxes i was).items → map items_in (set boxes i o) ≡ set (map items_in boxes) i (drop 1 (waiting_for i (map items_in boxes)))
+pop_there boxes i was o within is =
+    items_set boxes i o (drop 1 (waiting_for i (map items_in boxes)))
+    (is ∙ ap (λ (xs : List Said). drop 1 xs) (ap items_in (get_or_default boxes i was nowhere within) ∙ sym (items_at boxes i within [])))
+
+-- ---- tests of all of them
+
+pub all_items : (boxes : List OutboxSeen) → list_all (λ (o : OutboxSeen). is_empty o.items) boxes ≡ list_all is_empty (map items_in boxes)
+all_items [] = refl
+all_items (o ∷ boxes) = ap (λ (b : Bool). is_empty o.items && b) (all_items boxes)
+
+pub any_items : (smid : ℕ) (boxes : List OutboxSeen) → list_any (λ (o : OutboxSeen). list_any (is_reply_of smid) o.items) boxes ≡ list_any (list_any (is_reply_of smid)) (map items_in boxes)
+any_items smid [] = refl
+any_items smid (o ∷ boxes) = ap (λ (b : Bool). list_any (is_reply_of smid) o.items || b) (any_items smid boxes)
+
+-- ---- new ones
+
+-- one more empty one
+pub new_more : (boxes : List OutboxSeen) (n : ℕ) (o : OutboxSeen) → map items_in boxes ≡ replicate n [] → o.items ≡ [] → map items_in (boxes ++ o ∷ []) ≡ replicate (n + 1) []
+new_more [] zero o all none = ap (λ (xs : List Said). xs ∷ []) none
+new_more [] (suc n) o all none = absurd (cc)
+new_more (x ∷ boxes) zero o all none = absurd (cc)
+new_more (x ∷ boxes) (suc n) o all none =
+    let first : x.items ≡ [] = cc in
+    let others : map items_in boxes ≡ replicate n [] = cc in
+    let more : suc n + 1 ≡ suc (n + 1) = omega arith in
+    rw (more, first, new_more boxes n o others none) refl
+
+pub new_size : (boxes : List OutboxSeen) (n : ℕ) → map items_in boxes ≡ replicate n [] → length boxes ≡ n
+new_size boxes n all = sym (length-map boxes items_in) ∙ ap length all ∙ length-replicate {A = List Said} n []

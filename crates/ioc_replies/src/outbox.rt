@@ -75,7 +75,8 @@ impl Outbox {
         ensures items { self.new.items ≡ filter outlives_reset self.old.items }
         ensures room { self.old.spare ≤ self.new.spare }
     {
-        self.items.retain(outlives_reset);
+        self.items
+            .retain(|said| matches!(said, Said::Value(_) | Said::Calm));
     }
 
     /// Whether nothing waits.
@@ -91,13 +92,6 @@ impl Outbox {
     {
         self.items.iter().any(|said| is_reply_of(smid, said))
     }
-}
-
-// Whether a reset leaves the item.
-fn outlives_reset(said: &Said) -> bool
-    ensures { result ≡ outlives_reset said.now }
-{
-    matches!(said, Said::Value(_) | Said::Calm)
 }
 
 // Whether it is a reply of the identifier.

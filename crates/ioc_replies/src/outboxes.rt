@@ -139,7 +139,8 @@ fn reserve_each(boxes: &mut [Outbox], count: usize) -> Result<(), OutOfMemory>
 // Drops what a reset drops from each, and puts the mark into each but the first. There is room.
 fn renew_each(boxes: &mut [Outbox], generation: u32)
     requires { list_all (has_room 1) boxes.old ≡ true }
-    ensures { map items_in boxes.new ≡ marked generation (map (filter outlives_reset) (map items_in boxes.old)) }
+    ensures items { map items_in boxes.new ≡ marked generation (map (filter outlives_reset) (map items_in boxes.old)) }
+    ensures room { list_all (has_room 0) boxes.new ≡ true }
 {
     for i in 0..boxes.len() {
         renew(&mut boxes[i], i > 0, generation);
