@@ -139,6 +139,21 @@ impl DoorIoc {
         self.ioc2sys = true;
     }
 
+    /// The state.
+    pub fn state(&self) -> IocState
+        ensures { result ≡ self.now.state }
+    {
+        self.state
+    }
+
+    /// Who initialised the adapter: WhoInit of the last IOC Init whose reply had IOCStatus 0, or 0 where there was none
+    /// since the last reset.
+    pub fn who_init(&self) -> u8
+        ensures { result ≡ self.now.who_init }
+    {
+        self.who_init
+    }
+
     /// The state changes, and nothing else.
     pub fn set_state(&mut self, state: IocState)
         ensures { self.new ≡ record self.old { state = state } }

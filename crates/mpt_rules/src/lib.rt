@@ -5,6 +5,8 @@
 mod at_fabric;
 mod binding;
 mod host_frame;
+mod no_room;
+mod out_of_memory;
 mod post;
 mod request;
 mod said;
@@ -16,6 +18,8 @@ mod why;
 pub use at_fabric::{AtFabric, HeldReset};
 pub use binding::{Binding, Waiting};
 pub use host_frame::HostFrame;
+pub use no_room::NoRoom;
+pub use out_of_memory::OutOfMemory;
 pub use post::Post;
 pub use request::Request;
 pub use said::Said;

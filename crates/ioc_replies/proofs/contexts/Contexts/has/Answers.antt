@@ -1,0 +1,8 @@
+use Rattle.std.proofs.Common.{◌∙◌, sym, ap}
+use Rattle.std.specs.FinSet as set
+use Rattle.ioc_replies.proofs.Members.{kept}
+use Rattle.ioc_replies.proofs.contexts.Contexts.has.Goals as goal
+
+pub returns : goal.returns
+returns c =
+    rw (← c.self.view_is) (c.contains.ensures ∙ sym (kept c.self.inside.contexts.keys c.args.context))
