@@ -101,6 +101,20 @@ impl DoorHost {
         }
     }
 
+    /// An equal machine: what it would do next is asked of it.
+    pub fn copy(&self) -> DoorHost
+        ensures { result ≡ self.now }
+    {
+        DoorHost {
+            stage: self.stage,
+            message: self.message,
+            dwords: self.dwords,
+            sent: self.sent,
+            reply: self.reply,
+            words: self.words,
+        }
+    }
+
     /// The next step. The value is given exactly where the last step was a Read, and it is what that
     /// register read. After Done or Refused there is no next step. Refused comes exactly where the
     /// host's table of steps says, with the value that was read.

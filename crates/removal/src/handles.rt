@@ -44,6 +44,15 @@ impl Handles {
         }
     }
 
+    /// An equal table: what a call would make of it is tried there.
+    pub fn copy(&self) -> Handles
+        ensures { result ≡ self.now }
+    {
+        Handles {
+            phases: self.phases,
+        }
+    }
+
     /// The phase of a handle from 0x0009 to 0x0048.
     pub fn phase(&self, handle: Handle) -> Phase
         requires { IsHandle handle }

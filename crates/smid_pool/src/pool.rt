@@ -125,6 +125,26 @@ impl<R> Pool<R> {
         }
     }
 
+    /// Gives an open identifier another record, and answers the one that it had: it stays open.
+    pub fn reopen(&mut self, smid: Smid, value: R) -> R
+        requires { IsTrue (is_open (slot_of self.old smid)) }
+        ensures value { slot_of self.old smid ≡ Open result }
+        ensures reopened { self.new ≡ with_slot smid (Open value) self.old }
+    {
+        let record = self.park(smid);
+        self.unpark(smid, value);
+        record
+    }
+
+    // Opens a parked identifier with this record.
+    fn unpark(&mut self, smid: Smid, value: R)
+        requires { IsTrue (is_parked (slot_of self.old smid)) }
+        ensures { self.new ≡ with_slot smid (Open value) self.old }
+    {
+        let key = self.records.insert_reserved(value);
+        self.places[usize::from(smid) - 1] = Place::Holding(key);
+    }
+
     /// The record of an identifier. None exactly where it isn't open.
     pub fn get(&self, smid: Smid) -> Option<&R>
         ensures value { option_copied result ≡ record_of (slot_of self.now smid) }
@@ -143,6 +163,13 @@ impl<R> Pool<R> {
         ensures taken { IsTrue result → IsTrue (is_taken (slot_of self.now smid)) }
     {
         matches!(place_at(&self.places, smid), Place::Waiting)
+    }
+
+    /// Whether an identifier of the class is free. It looks at no more than five words of bits.
+    pub fn has_free(&self, class: Class) -> bool
+        ensures { result ≡ is_some (least_free class self.now) }
+    {
+        self.vacant.first_in(class).is_some()
     }
 
     /// How many identifiers of the class are free.

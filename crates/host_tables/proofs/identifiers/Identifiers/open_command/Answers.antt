@@ -1,0 +1,14 @@
+use Rattle.std.proofs.Common.{◌∙◌, sym, arith}
+use Rattle.smid_pool.specs.declared.class.Class.TheVariants.{ScsiIo}
+use Rattle.mpt_rules.specs.declared.request.Request.TheVariants as request
+use Rattle.host_tables.proofs.SlotTables.{least_opened, sorted_opened}
+use Rattle.host_tables.proofs.identifiers.Identifiers.open_command.Goals as goal
+
+pub invariant_of-self : goal.invariant_of-self
+invariant_of-self c =
+    sorted_opened c.open.result c.self.inside.pool c.open.new.self ScsiIo (request.Command c.args.n) c.open.ensures.opened c.open.ensures.in_class c.open.ensures.stays
+    (λ smid within internal. absurd (cc)) c.self.invariant
+
+pub returns-clause-least : goal.returns-clause-least
+returns-clause-least c =
+    rw (c.ok.ensures.value, ← c.self.view_is) (least_opened c.open.result c.self.inside.pool ScsiIo c.open.ensures.least c.open.ensures.none_free)

@@ -1,0 +1,13 @@
+use Rattle.std.proofs.Common.{◌≡◌, not, refl, rules}
+use Rattle.std.specs.List.{filter}
+use borrow.Author.Tests.{tests}
+use Rattle.std.proofs.lemmas.Fn.{filter_same}
+use Rattle.mpt_rules.specs.declared.request.Request.{Request}
+use Rattle.mpt_rules.specs.Host.Removal.{is_page_of, without_page}
+use Rattle.host_tables.proofs.lists.HostLists.drop_page.Goals as goal
+
+pub returns : goal.returns
+returns c =
+    let kept : c.retain.new.self.items ≡ without_page c.args.handle c.self.inside.internal.items =
+    filter_same _ (λ (r : Request). not (is_page_of c.args.handle r)) _ (λ x b f k. search (rules, tests)) c.self.inside.internal.items c.retain.new.self.items c.retain.ensures.filtered in
+    rw (kept, ← c.self.view_is) refl

@@ -1,0 +1,4 @@
+use Rattle.host_tables.proofs.turn.+go_on.Given as goal
+
+abbrev pub decreases-go_on : goal.decreases-go_on
+decreases-go_on l = l.more

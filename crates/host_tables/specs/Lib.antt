@@ -1,0 +1,6 @@
+pub mod Numbered
+pub mod Lists
+pub mod Slots
+pub mod Frames
+pub mod Rings
+pub mod Machine
