@@ -35,18 +35,18 @@ module _ {V : Type 0} where
   pub settled-insert : (t u : BTreeMap ℕ V) (n : ℕ) (v : V) → ((q : ℕ) → tree.get nat_cmp u q ≡ cond (is_eq (nat_cmp n q)) (Some v) (tree.get nat_cmp t q)) → map.from_entries {R = nat_cmp} u.entries ≡ map.insert (map.from_entries t.entries) n v
   settled-insert t u n v is =
       same_map nat_cmp_total nat_cmp-IsAntisymmetric _ _ (λ q.
-        sym (get-settled u q) ∙ is q
-        ∙ ap (λ (b : Bool). cond b (Some v) (tree.get nat_cmp t q)) (turned n q)
-        ∙ ap (cond (eq_by_cmp nat_cmp q n) (Some v)) (get-settled t q)
-        ∙ sym (get-insert nat_cmp_total (map.from_entries t.entries) n v q))
+      sym (get-settled u q) ∙ is q
+      ∙ ap (λ (b : Bool). cond b (Some v) (tree.get nat_cmp t q)) (turned n q)
+      ∙ ap (cond (eq_by_cmp nat_cmp q n) (Some v)) (get-settled t q)
+      ∙ sym (get-insert nat_cmp_total (map.from_entries t.entries) n v q))
 
   pub settled-remove : (t u : BTreeMap ℕ V) (n : ℕ) → ((q : ℕ) → tree.get nat_cmp u q ≡ cond (is_eq (nat_cmp n q)) None (tree.get nat_cmp t q)) → map.from_entries {R = nat_cmp} u.entries ≡ map.remove (map.from_entries t.entries) n
   settled-remove t u n is =
       same_map nat_cmp_total nat_cmp-IsAntisymmetric _ _ (λ q.
-        sym (get-settled u q) ∙ is q
-        ∙ ap (λ (b : Bool). cond b None (tree.get nat_cmp t q)) (turned n q)
-        ∙ ap (cond (eq_by_cmp nat_cmp q n) None) (get-settled t q)
-        ∙ sym (get-remove nat_cmp_total (map.from_entries t.entries) n q))
+      sym (get-settled u q) ∙ is q
+      ∙ ap (λ (b : Bool). cond b None (tree.get nat_cmp t q)) (turned n q)
+      ∙ ap (cond (eq_by_cmp nat_cmp q n) None) (get-settled t q)
+      ∙ sym (get-remove nat_cmp_total (map.from_entries t.entries) n q))
 
   twice : (b : Bool) (x y : Option V) → cond b None (cond b x y) ≡ cond b None y
   twice true x y = refl
@@ -56,10 +56,10 @@ module _ {V : Type 0} where
   remove-insert : (m : map.FinMap nat_cmp V) (n : ℕ) (v : V) → map.remove (map.insert m n v) n ≡ map.remove m n
   remove-insert m n v =
       same_map nat_cmp_total nat_cmp-IsAntisymmetric _ _ (λ q.
-        get-remove nat_cmp_total (map.insert m n v) n q
-        ∙ ap (cond (eq_by_cmp nat_cmp q n) None) (get-insert nat_cmp_total m n v q)
-        ∙ twice (eq_by_cmp nat_cmp q n) (Some v) (map.get m q)
-        ∙ sym (get-remove nat_cmp_total m n q))
+      get-remove nat_cmp_total (map.insert m n v) n q
+      ∙ ap (cond (eq_by_cmp nat_cmp q n) None) (get-insert nat_cmp_total m n v q)
+      ∙ twice (eq_by_cmp nat_cmp q n) (Some v) (map.get m q)
+      ∙ sym (get-remove nat_cmp_total m n q))
 
   apart : (a b : Bool) (x y : Option V) → (a ≡ true → b ≡ false) → cond a None (cond b x y) ≡ cond b x (cond a None y)
   apart true b x y differs = rw (differs refl) refl
@@ -68,11 +68,11 @@ module _ {V : Type 0} where
   remove-insert_other : (m : map.FinMap nat_cmp V) (k n : ℕ) (v : V) → eqb k n ≡ false → map.remove (map.insert m k v) n ≡ map.insert (map.remove m n) k v
   remove-insert_other m k n v differs =
       same_map nat_cmp_total nat_cmp-IsAntisymmetric _ _ (λ q.
-        get-remove nat_cmp_total (map.insert m k v) n q
-        ∙ ap (cond (eq_by_cmp nat_cmp q n) None) (get-insert nat_cmp_total m k v q)
-        ∙ apart (eq_by_cmp nat_cmp q n) (eq_by_cmp nat_cmp q k) (Some v) (map.get m q) (key_of q k n differs)
-        ∙ ap (cond (eq_by_cmp nat_cmp q k) (Some v)) (sym (get-remove nat_cmp_total m n q))
-        ∙ sym (get-insert nat_cmp_total (map.remove m n) k v q))
+      get-remove nat_cmp_total (map.insert m k v) n q
+      ∙ ap (cond (eq_by_cmp nat_cmp q n) None) (get-insert nat_cmp_total m k v q)
+      ∙ apart (eq_by_cmp nat_cmp q n) (eq_by_cmp nat_cmp q k) (Some v) (map.get m q) (key_of q k n differs)
+      ∙ ap (cond (eq_by_cmp nat_cmp q k) (Some v)) (sym (get-remove nat_cmp_total m n q))
+      ∙ sym (get-insert nat_cmp_total (map.remove m n) k v q))
 
   -- what a number has, with the entry that stands beside
   pub get-with_newest : (o : Option (ℕ × V)) (m : map.FinMap nat_cmp V) (n : ℕ) → map.get (with_newest o m) n ≡ option_or (newest_at o n) (map.get m n)

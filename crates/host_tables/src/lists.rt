@@ -168,7 +168,8 @@ impl HostLists {
     pub fn drop_page(&mut self, handle: Handle)
         ensures { self.new ≡ record self.old { internal = without_page handle self.old.internal } }
     {
-        self.internal.retain(|request| !reads_page_of(request, handle));
+        self.internal
+            .retain(|request| !reads_page_of(request, handle));
     }
 
     /// The posts leave what is put, and nothing waits for an identifier any more.

@@ -121,13 +121,7 @@ fn newest_value<V>(newest: &Option<(u32, V)>, n: u32) -> Option<&V>
     ensures { option_copied result ≡ newest_at newest.now n }
 {
     match newest {
-        Some((k, value)) => {
-            if *k == n {
-                Some(value)
-            } else {
-                None
-            }
-        }
+        Some((k, value)) => { if *k == n { Some(value) } else { None } }
         None => None,
     }
 }

@@ -11,6 +11,7 @@ pub const REPLY_FRAMES: usize = 64;
 
 // Where the host's memory has the first; each has 128 bytes.
 const FIRST_ADDRESS: u32 = 0x0001_0000;
+
 const FRAME_BYTES: u32 = 128;
 
 // The entries of the reply free ring.

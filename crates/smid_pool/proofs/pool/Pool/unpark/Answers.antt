@@ -22,8 +22,8 @@ invariant_of-self g c =
     let at = parked_at c.self.inside.records c.self.inside.places.items c.args.smid c.self.invariant.sound (rw (← c.self.view_is) at c.requires) in
     let emptied = IsSound-set c.self.inside.records c.self.inside.places.items (c.args.smid - 1) Vacant c.self.invariant.sound at.within (ap is_holding at.waits) refl in
     let put = IsSound-put c.self.inside.records c.insert_reserved-key.new.self (set c.self.inside.places.items (c.args.smid - 1) Vacant) (c.args.smid - 1) c.insert_reserved-key.result c.args.value
-        emptied at.within (get_or-set_same c.self.inside.places.items (c.args.smid - 1) Vacant Vacant (rw c.self.invariant.sound.size at.within))
-        c.insert_reserved-key.ensures.was_vacant c.insert_reserved-key.ensures.updates c.insert_reserved-key.ensures.len c.insert_reserved-key.ensures.capacity in
+    emptied at.within (get_or-set_same c.self.inside.places.items (c.args.smid - 1) Vacant Vacant (rw c.self.invariant.sound.size at.within))
+    c.insert_reserved-key.ensures.was_vacant c.insert_reserved-key.ensures.updates c.insert_reserved-key.ensures.len c.insert_reserved-key.ensures.capacity in
     rw c.from.ensures
     (record {
       sound = rw (set-set c.self.inside.places.items (c.args.smid - 1) Vacant (Holding c.insert_reserved-key.result)) at put;
