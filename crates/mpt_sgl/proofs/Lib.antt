@@ -1,0 +1,12 @@
+pub mod Complete
+pub mod ElementBytes
+pub mod ElementRows
+pub mod FrameCounts
+pub mod Held
+pub mod ReadSteps
+pub mod RowSplit
+pub mod Rows
+pub mod Shapes
+pub mod Sound
+pub mod WriteSteps
+pub mod ZeroBytes
