@@ -17,7 +17,7 @@ use Rattle.mpt_sgl.specs.Faults.{chain_faults, chain_pieces}
 use Rattle.mpt_sgl.specs.Pieces.{is_piece}
 use Rattle.mpt_sgl.specs.Segments.{chain_fault, due_flags, next_shape, piece_of, segment_fault, segment_pieces, simple_fault, simples_fault, unused_fault}
 use Rattle.mpt_sgl.proofs.ElementRows.{elements_in-more, length-elements_in}
-use Rattle.mpt_sgl.proofs.Held.{Begins, Held}
+use Rattle.mpt_sgl.specs.Held.{Begins, Held}
 use Rattle.mpt_sgl.proofs.ReadSteps.{sound_element}
 use Rattle.mpt_sgl.proofs.Shapes.{chain_shape-length, chained_shape, last_shape, shape_for, shape_for-chained, shape_for-last}
 use Rattle.mpt_sgl.proofs.WriteSteps.{length-simple_run, list_all-take}

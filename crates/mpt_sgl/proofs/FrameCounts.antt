@@ -5,7 +5,7 @@ use Rattle.std.proofs.lemmas.List.{length-drop}
 use Rattle.mpt_sgl.specs.declared.chained.ChainFrame.{ChainFrame}
 use Rattle.mpt_sgl.specs.declared.list.Piece.{Piece}
 use Rattle.mpt_sgl.specs.Pieces.{frame_count}
-use Rattle.mpt_sgl.proofs.Held.{FramesFit, Held}
+use Rattle.mpt_sgl.specs.Held.{FramesFit, Held}
 
 -- from a frame on
 later_fit : (frames : List ChainFrame) (left : ℕ) → 9 * length frames + 2 ≤ left → left ≤ 9 * length frames + 10 → FramesFit 9 left frames

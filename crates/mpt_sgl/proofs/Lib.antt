@@ -2,7 +2,7 @@ pub mod Complete
 pub mod ElementBytes
 pub mod ElementRows
 pub mod FrameCounts
-pub mod Held
+pub mod ListsTold
 pub mod ReadSteps
 pub mod RowSplit
 pub mod Rows

@@ -10,7 +10,7 @@ use Rattle.mpt_sgl.specs.Elements.{chain_element, elements_in, is_zero, unused_e
 use Rattle.mpt_sgl.specs.Spelling.{addresses, row_from}
 use Rattle.mpt_sgl.proofs.Complete.{append_split}
 use Rattle.mpt_sgl.proofs.ElementRows.{elements_in-add, length-elements_in}
-use Rattle.mpt_sgl.proofs.Held.{Begins, FramesFit, Held}
+use Rattle.mpt_sgl.specs.Held.{Begins, FramesFit, Held}
 use Rattle.mpt_sgl.proofs.RowSplit.{row_last, row_run}
 use Rattle.mpt_sgl.proofs.WriteSteps.{length-simple_run}
 use Rattle.mpt_sgl.proofs.ZeroBytes.{and_true, elements_zero, zero_behind, zero_elements}
@@ -24,7 +24,7 @@ abbrev pub is_clear_from : ℕ → List ℕ → List ChainFrame → Bool
 is_clear_from room bytes frames = is_zero (drop (12 * (room + 1)) bytes) && list_all (λ (frame : ChainFrame). is_zero (drop 120 frame.bytes)) frames
 
 -- bytes that begin with elements, and the elements that there is room for
-begins_row : (elements : List Element) (room : ℕ) (bytes : List ℕ) → length elements ≤ room → Begins elements bytes → (elements_in room bytes ≡ elements ++ replicate (room - length elements) unused_element) × (is_zero (drop (12 * room) bytes) ≡ true)
+pub begins_row : (elements : List Element) (room : ℕ) (bytes : List ℕ) → length elements ≤ room → Begins elements bytes → (elements_in room bytes ≡ elements ++ replicate (room - length elements) unused_element) × (is_zero (drop (12 * room) bytes) ≡ true)
 begins_row elements room bytes few begins =
     let n : ℕ = length elements in
     let u : ℕ = room - n in
@@ -37,7 +37,7 @@ begins_row elements room bytes few begins =
     )
 
 -- and the other way round
-row_begins : (elements : List Element) (room unused : ℕ) (bytes : List ℕ) → length elements ≤ room → elements_in room bytes ≡ elements ++ replicate unused unused_element → is_zero (drop (12 * room) bytes) ≡ true → Begins elements bytes
+pub row_begins : (elements : List Element) (room unused : ℕ) (bytes : List ℕ) → length elements ≤ room → elements_in room bytes ≡ elements ++ replicate unused unused_element → is_zero (drop (12 * room) bytes) ≡ true → Begins elements bytes
 row_begins elements room unused bytes few row clear =
     let n : ℕ = length elements in
     let u : ℕ = room - n in

@@ -16,7 +16,7 @@ use Rattle.mpt_sgl.specs.Elements.{chain_element, chain_length, chain_shape, ele
 use Rattle.mpt_sgl.specs.Faults.{chain_faults, chain_pieces}
 use Rattle.mpt_sgl.specs.Segments.{chain_fault, due_flags, next_shape, piece_of, segment_fault, segment_pieces, simple_fault, simples_fault, unused_fault}
 use Rattle.mpt_sgl.proofs.ElementRows.{elements_in-more, length-elements_in}
-use Rattle.mpt_sgl.proofs.Held.{Begins, Held}
+use Rattle.mpt_sgl.specs.Held.{Begins, Held}
 use Rattle.mpt_sgl.proofs.Shapes.{IsShape, IsTold, IsTold-length, IsTold-shape, chain_shape-tells, chained_shape, chains, ends, last_shape, shape_for, shape_for-chained, shape_for-last}
 
 pub or_none : {X : Type 0} (a b : Option X) → option_or a b ≡ None → (a ≡ None) × (b ≡ None)

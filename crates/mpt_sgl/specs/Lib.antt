@@ -5,3 +5,4 @@ pub mod Spelling
 pub mod Segments
 pub mod Faults
 pub mod Areas
+pub mod Held

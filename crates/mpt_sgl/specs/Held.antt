@@ -1,5 +1,5 @@
 -- The areas of a list, one after the other.
-use Rattle.std.proofs.Common.{◌≡◌, ◌≢◌, ℕ, zero, suc, ◌+◌, ◌-◌, ◌*◌, ◌<◌, ◌≤◌, Bool, true, false, not, eqb, ltb, cond, IsTrue, List, [], ◌∷◌, ◌++◌, length, map, take, drop, Option, Some, None, refl, ap, sym, subst, ◌∙◌, arith}
+use Rattle.std.specs.Prelude.{◌≡◌, ℕ, ◌+◌, ◌-◌, ◌*◌, ◌≤◌, Bool, true, List, [], ◌∷◌, length, drop, Option, Some, None}
 use Rattle.mpt_sgl.specs.declared.chained.ChainFrame.{ChainFrame}
 use Rattle.mpt_sgl.specs.declared.element.Element.{Element}
 use Rattle.mpt_sgl.specs.declared.list.Piece.{Piece}
@@ -16,6 +16,11 @@ abbrev pub Held : Bool → ℕ → List Piece → List ℕ → List ChainFrame �
 Held to_device room pieces bytes [] = (1 ≤ length pieces) × (length pieces ≤ room + 1) × Begins (area_elements to_device room pieces None) bytes
 Held to_device room pieces bytes (frame ∷ frames) =
     (room + 2 ≤ length pieces) × Begins (area_elements to_device room pieces (Some frame.address)) bytes × Held to_device 9 (drop room pieces) frame.bytes frames
+
+-- the pieces that are left stand in these frames, if there are any
+abbrev pub FramesHold : Bool → List Piece → List ChainFrame → Type 0
+FramesHold to_device pieces [] = Unit {0}
+FramesHold to_device pieces (frame ∷ frames) = Held to_device 9 pieces frame.bytes frames
 
 -- so many frames hold what doesn't find room
 abbrev pub FramesFit : ℕ → ℕ → List ChainFrame → Type 0
