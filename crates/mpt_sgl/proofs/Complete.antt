@@ -100,7 +100,7 @@ pub record NoFault (to_device : Bool) (segment : ℕ) (shape : Shape) (pieces : 
   pub none : chain_faults segment shape to_device bytes frames ≡ None
   pub told : chain_pieces shape bytes frames ≡ pieces
 
-list_all-drop : (n : ℕ) (pieces : List Piece) → list_all is_piece pieces ≡ true → list_all is_piece (drop n pieces) ≡ true
+pub list_all-drop : (n : ℕ) (pieces : List Piece) → list_all is_piece pieces ≡ true → list_all is_piece (drop n pieces) ≡ true
 list_all-drop zero pieces sound = sound
 list_all-drop (suc n) [] sound = refl
 list_all-drop (suc n) (p ∷ pieces) sound = list_all-drop n pieces (and_true (is_piece p) (list_all is_piece pieces) sound).1

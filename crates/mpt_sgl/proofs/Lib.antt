@@ -1,7 +1,9 @@
+pub mod ChainSteps
 pub mod Complete
 pub mod ElementBytes
 pub mod ElementRows
 pub mod FrameCounts
+pub mod FrameSteps
 pub mod ListsTold
 pub mod ReadSteps
 pub mod RowSplit

@@ -13,7 +13,7 @@ use Rattle.mpt_sgl.specs.declared.list.Piece.{Piece}
 use Rattle.mpt_sgl.specs.declared.list.List.{List as ScatterList}
 use Rattle.mpt_sgl.specs.Areas.{area_elements, simple_run}
 use Rattle.mpt_sgl.specs.Elements.{element_at, elements_in, empty_element, is_to_device, is_zero, simple_element, unused_element}
-use Rattle.mpt_sgl.specs.Faults.{chain_faults, chain_pieces, empty_fault, first_fault, first_shape, is_empty_lead, pieces_told}
+use Rattle.mpt_sgl.specs.Faults.{IsFault, chain_faults, chain_pieces, empty_fault, first_fault, first_shape, is_empty_lead, pieces_told}
 use Rattle.mpt_sgl.specs.Pieces.{IsScatterList, frame_count, is_piece}
 use Rattle.mpt_sgl.specs.Segments.{unused_fault}
 use Rattle.mpt_sgl.specs.Spelling.{Spells, addresses, row_from, row_of}
@@ -277,3 +277,50 @@ unfaulted c none sound = by_known (is_known c.offset) refl none where
     by_lead : (b : Bool) → is_empty_lead c.offset (element_at c.first) ≡ b → faults_with true b (first_shape c.offset (element_at c.first)) (is_to_device (element_at c.first).flags) c ≡ None → Spells (list_told c) c
     by_lead true empty e = unfaulted_empty c empty e
     by_lead false some e = unfaulted_some c known some sound e
+
+-- the first fault, where the lead is the empty list's
+pub first_of_empty : (c : Chained) (lead : Element) → lead ≡ element_at c.first → is_known c.offset ≡ true → is_empty_lead c.offset lead ≡ true → (first_fault c ≡ empty_fault lead c.first c.frames) × (list_told c ≡ (let l : ScatterList = record { to_device = false; pieces = [] } in l))
+first_of_empty c lead is known empty =
+    let empty' : is_empty_lead c.offset (element_at c.first) ≡ true = ap (is_empty_lead c.offset) (sym is) ∙ empty in
+    let shape : Shape = first_shape c.offset (element_at c.first) in
+    let d : Bool = is_to_device (element_at c.first).flags in
+    let flags = (lead_empty c.offset lead empty).1 in
+    let inward : is_to_device (element_at c.first).flags ≡ false = ap (λ (e : Element). is_to_device e.flags) (sym is) ∙ ap is_to_device flags in
+    let none : pieces_told c ≡ [] = ap (λ b. cond b [] (chain_pieces shape c.first c.frames)) empty' in
+    (
+      ap (λ k. faults_with k (is_empty_lead c.offset (element_at c.first)) shape d c) known ∙ ap (λ e. faults_with true e shape d c) empty' ∙ ap (λ (e : Element). empty_fault e c.first c.frames) (sym is),
+      ap (λ b. record { to_device = b; pieces = pieces_told c }) inward ∙ ap (λ ps. record { to_device = false; pieces = ps }) none,
+    )
+
+-- and where it is a piece's
+pub first_of_some : (c : Chained) (lead : Element) (shape : Shape) (to_device : Bool) → lead ≡ element_at c.first → is_known c.offset ≡ true → is_empty_lead c.offset lead ≡ false → shape ≡ first_shape c.offset lead → to_device ≡ is_to_device lead.flags
+    → (first_fault c ≡ option_or (chain_faults 0 shape to_device c.first c.frames) (cond (ltb 256 (length (chain_pieces shape c.first c.frames))) (Some fault.Many) None)) × (list_told c ≡ (let l : ScatterList = record { to_device = to_device; pieces = chain_pieces shape c.first c.frames } in l))
+first_of_some c lead shape to_device is known some shape_is direction =
+    let some' : is_empty_lead c.offset (element_at c.first) ≡ false = ap (is_empty_lead c.offset) (sym is) ∙ some in
+    let shape' : first_shape c.offset (element_at c.first) ≡ shape = ap (first_shape c.offset) (sym is) ∙ sym shape_is in
+    let direction' : is_to_device (element_at c.first).flags ≡ to_device = ap (λ (e : Element). is_to_device e.flags) (sym is) ∙ sym direction in
+    let told : pieces_told c ≡ chain_pieces shape c.first c.frames = ap (λ b. cond b [] (chain_pieces (first_shape c.offset (element_at c.first)) c.first c.frames)) some' ∙ ap (λ (s : Shape). chain_pieces s c.first c.frames) shape' in
+    (
+      ap (λ k. faults_with k (is_empty_lead c.offset (element_at c.first)) (first_shape c.offset (element_at c.first)) (is_to_device (element_at c.first).flags) c) known
+      ∙ ap (λ e. faults_with true e (first_shape c.offset (element_at c.first)) (is_to_device (element_at c.first).flags) c) some'
+      ∙ ap (λ (s : Shape). faults_with true false s (is_to_device (element_at c.first).flags) c) shape'
+      ∙ ap (λ b. faults_with true false shape b c) direction',
+      ap (λ b. record { to_device = b; pieces = pieces_told c }) direction' ∙ ap (λ ps. record { to_device = to_device; pieces = ps }) told,
+    )
+
+pub first_of_offset : (c : Chained) → is_known c.offset ≡ false → first_fault c ≡ Some (fault.Offset c.offset)
+first_of_offset c known = ap (λ k. faults_with k (is_empty_lead c.offset (element_at c.first)) (first_shape c.offset (element_at c.first)) (is_to_device (element_at c.first).flags) c) known
+
+-- bytes with a fault spell no list
+pub spells_none : (c : Chained) (cause : SglFault) → IsFault (first_fault c) cause → (list : ScatterList) → Spells list c → cause ≡ fault.OutOfMemory
+spells_none c cause (inl wanting) list spells = wanting
+spells_none c cause (inr first) list spells = let none = (spelled list c spells).0 in cc
+
+-- and other bytes the list that they tell alone
+pub spells_told : (c : Chained) (told : ScatterList) → list_told c ≡ told → (list : ScatterList) → Spells list c → told ≡ list
+spells_told c told is list spells = sym is ∙ (spelled list c spells).1
+
+pub told_spells : (c : Chained) (told : ScatterList) → list_told c ≡ told → first_fault c ≡ None → IsTrue (list_all is_piece told.pieces) → Spells told c
+told_spells c told is none sound =
+    let sound' : IsTrue (list_all is_piece (pieces_told c)) = subst (λ (l : ScatterList). IsTrue (list_all is_piece l.pieces)) (sym is) sound in
+    subst (λ (l : ScatterList). Spells l c) is (unfaulted c none sound')

@@ -1,12 +1,15 @@
 -- The reading of one element after the other.
-use Rattle.std.proofs.Common.{◌≡◌, ◌≢◌, ℕ, zero, suc, ◌+◌, ◌-◌, ◌*◌, ◌<◌, ◌≤◌, Bool, true, false, eqb, cond, List, [], ◌∷◌, ◌++◌, length, map, drop, Option, Some, None, refl, ap, sym, ◌∙◌, append_assoc, append-nil, arith}
+use Rattle.std.proofs.Common.{◌≡◌, ◌≢◌, ℕ, zero, suc, ◌+◌, ◌-◌, ◌*◌, ◌^◌, ◌<◌, ◌≤◌, IsTrue, Bool, true, false, eqb, cond, List, [], ◌∷◌, ◌++◌, length, map, drop, Option, Some, None, refl, ap, sym, ◌∙◌, append_assoc, append-nil, arith}
+use Rattle.std.specs.List.{list_all}
 use Rattle.std.specs.Option.{option_or}
+use Rattle.std.proofs.lemmas.List.Folds.{list_all-append}
 use Rattle.std.proofs.lemmas.Bool.Decides.{nat_tests}
 use Rattle.mpt_sgl.specs.declared.element.Element.{Element}
 use Rattle.mpt_sgl.specs.declared.fault.SglFault.{SglFault}
 use Rattle.mpt_sgl.specs.declared.fault.SglFault.TheVariants as fault
 use Rattle.mpt_sgl.specs.declared.list.Piece.{Piece}
 use Rattle.mpt_sgl.specs.Elements.{element_at, elements_in}
+use Rattle.mpt_sgl.specs.Pieces.{is_piece}
 use Rattle.mpt_sgl.specs.Segments.{due_flags, piece_of, simple_fault, simples_fault}
 use Rattle.mpt_sgl.proofs.ElementRows.{elements_left, length-elements_in}
 
@@ -85,3 +88,9 @@ unfolding elements_in
 none_left segment place last to_device count bytes told past =
     let e : count - place ≡ 0 = omega arith in
     rw e (refl, append-nil told)
+
+-- one more piece is one that a list may have
+pub sound_more : (e : Element) (told after : List Piece) → e.length ≢ 0 → e.length < 2 ^ 24 → after ≡ told ++ piece_of e ∷ [] → IsTrue (list_all is_piece told) → IsTrue (list_all is_piece after)
+sound_more e told after some short more sound =
+    let piece : is_piece (piece_of e) ≡ true = grind (arith, nat_tests) in
+    ap (list_all is_piece) more ∙ list_all-append is_piece told (piece_of e ∷ []) ∙ rw (sound, piece) refl

@@ -39,6 +39,10 @@ chain_fault segment element e next =
 abbrev pub unused_fault : ℕ → List ℕ → Option SglFault
 unused_fault segment bytes = if is_zero bytes then None else Some (fault.Stray segment)
 
+-- how many elements a segment of this shape has
+abbrev pub element_count : Shape → ℕ
+element_count shape = if shape.chained then shape.simple + 1 else shape.simple
+
 -- a segment of this shape, with the next frame's address, if there is one: its elements in order, and then what is behind them
 unfoldable pub segment_fault : ℕ → Shape → Bool → List ℕ → Option ℕ → Option SglFault
 segment_fault segment shape to_device bytes next =

@@ -1,12 +1,12 @@
 //! One segment: the first area, or a frame.
-ghost use Rattle.std.specs.Prelude.{◌≡◌, ◌≤◌, ◌<◌, ◌+◌, ◌*◌, ◌++◌, ◌==◌, IsTrue, MatchResult, IfOk, Some, None, drop, length, map, if◌then◌else◌};
+ghost use Rattle.std.specs.Prelude.{◌≡◌, ◌≤◌, ◌<◌, ◌+◌, ◌*◌, ◌++◌, ◌==◌, IsTrue, MatchResult, IfOk, IfSome, OnOk, Some, None, drop, length, map, if◌then◌else◌};
 ghost use Rattle.std.specs.List.{list_all};
 ghost use Rattle.std.specs.Option.{ForNone, ForSome};
 ghost use Rattle.mpt_sgl.specs.Areas.{area_elements, simple_run};
 ghost use Rattle.mpt_sgl.specs.Elements.{chain_shape, element_at, elements_in, is_zero};
 ghost use Rattle.mpt_sgl.specs.Faults.{IsFault};
 ghost use Rattle.mpt_sgl.specs.Pieces.{is_piece};
-ghost use Rattle.mpt_sgl.specs.Segments.{chain_fault, next_shape, piece_of, segment_fault, segment_pieces, simples_fault, unused_fault};
+ghost use Rattle.mpt_sgl.specs.Segments.{chain_fault, element_count, next_shape, piece_of, segment_fault, segment_pieces, simples_fault, unused_fault};
 
 use crate::element::{ELEMENT_BYTES, Element, Shape};
 use crate::fault::SglFault;
@@ -78,10 +78,12 @@ pub(crate) fn read_area(
     bytes: &[u8],
     next: Option<u64>,
 ) -> Result<Option<Shape>, SglFault>
-    requires { 12 * shape.simple + 12 ≤ length bytes.now }
-    ensures { MatchResult result
+    requires { 12 * element_count shape ≤ length bytes.now }
+    ensures read { MatchResult result
         (λ following. (segment_fault segment shape to_device bytes.now next ≡ None) × (following ≡ next_shape shape bytes.now) × (pieces.new.items ≡ pieces.old.items ++ segment_pieces shape bytes.now))
         (λ fault. IsFault (segment_fault segment shape to_device bytes.now next) fault) }
+    ensures sound { IsTrue (list_all is_piece pieces.old.items) → OnOk result (IsTrue (list_all is_piece pieces.new.items)) }
+    ensures room { IfOk result (λ following. IfSome following (λ s. element_count s ≤ 10)) }
 {
     let end = ELEMENT_BYTES * shape.simple as usize;
     if shape.chained {
@@ -107,9 +109,10 @@ fn read_simple(
 ) -> Result<(), SglFault>
     requires within { 12 * count ≤ length bytes.now }
     requires flags { last < 252 }
-    ensures { MatchResult result
+    ensures read { MatchResult result
         (λ _. (simples_fault segment 0 to_device last (elements_in count bytes.now) ≡ None) × (pieces.new.items ≡ pieces.old.items ++ map piece_of (elements_in count bytes.now)))
         (λ fault. IsFault (simples_fault segment 0 to_device last (elements_in count bytes.now)) fault) }
+    ensures sound { IsTrue (list_all is_piece pieces.old.items) → OnOk result (IsTrue (list_all is_piece pieces.new.items)) }
 {
     for place in 0..count {
         let element = Element::read(&bytes[ELEMENT_BYTES * place as usize..]);
@@ -154,9 +157,10 @@ fn read_chain(
     next: Option<u64>,
 ) -> Result<Shape, SglFault>
     requires { 12 ≤ length bytes.now }
-    ensures { MatchResult result
+    ensures read { MatchResult result
         (λ shape. (chain_fault segment place (element_at bytes.now) next ≡ None) × (chain_shape (element_at bytes.now).length ≡ Some shape))
         (λ fault. chain_fault segment place (element_at bytes.now) next ≡ Some fault) }
+    ensures room { IfOk result (λ shape. element_count shape ≤ 10) }
 {
     let element = Element::read(bytes);
     if element.flags != CHAIN {

@@ -1,5 +1,5 @@
 //! The bytes of a scatter list: the first area, in the request, and the chain frames.
-ghost use Rattle.std.specs.Prelude.{◌≡◌};
+ghost use Rattle.std.specs.Prelude.{◌≡◌, length};
 
 use std::marker::Model;
 
@@ -10,6 +10,16 @@ pub struct ChainFrame {
     pub address: u64,
     /// What is in it: up to ten elements, and zeros behind them.
     pub bytes: [u8; 128],
+}
+
+impl ChainFrame {
+    /// The bytes as an area.
+    pub(crate) fn area(&self) -> &[u8]
+        ensures value { result.now ≡ self.now.bytes }
+        ensures length { length result.now ≡ 128 }
+    {
+        &self.bytes
+    }
 }
 
 /// The frames of a chained list. A contract sees them as a list.

@@ -1,7 +1,8 @@
 //! Elements, and the 12 bytes of each.
-ghost use Rattle.std.specs.Prelude.{◌≡◌, ◌≤◌, ◌<◌, ◌^◌, drop, length, length as count};
+ghost use Rattle.std.specs.Prelude.{◌≡◌, ◌≤◌, ◌<◌, ◌^◌, IfSome, drop, length, length as count};
 ghost use Rattle.mpi_layout.specs.Rows.{Stands};
 ghost use Rattle.mpt_sgl.specs.Elements.{chain_element, chain_shape, element_at, element_layout, is_to_device, simple_element};
+ghost use Rattle.mpt_sgl.specs.Segments.{element_count};
 
 use crate::list::Piece;
 use mpi_layout::{Layout, Row, Rule, low, number, read, write};
@@ -47,6 +48,13 @@ fn layout() -> Layout<3>
 }
 
 impl Element {
+    /// The one element of the empty list.
+    pub const EMPTY: Element = Element {
+        length: 0,
+        flags: 0xd3,
+        address: u64::MAX,
+    };
+
     /// The element of a piece with these flags, with what tells the direction added to them.
     pub fn simple(piece: &Piece, flags: u8, to_device: bool) -> Element
         requires { flags < 252 }
@@ -78,7 +86,8 @@ impl Element {
     /// The element at the front of the bytes.
     pub fn read(bytes: &[u8]) -> Element
         requires { 12 ≤ length bytes.now }
-        ensures { result ≡ element_at bytes.now }
+        ensures element { result ≡ element_at bytes.now }
+        ensures short { result.length < 2 ^ 24 }
     {
         match read(&layout(), bytes) {
             Ok(values) => Element {
@@ -109,7 +118,8 @@ impl Element {
 
     /// What the frame has that a chain element leads to, or none where no frame can have it.
     pub fn next_shape(&self) -> Option<Shape>
-        ensures { result ≡ chain_shape self.now.length }
+        ensures shape { result ≡ chain_shape self.now.length }
+        ensures room { IfSome result (λ shape. element_count shape ≤ 10) }
     {
         if self.length == CHAINED_FRAME + 120 {
             return Some(Shape {
