@@ -82,6 +82,32 @@ pub struct ConfigAsk {
 }
 
 impl ConfigAsk {
+    /// A request that has in each row 0 or the first number that the row's rule names.
+    pub const BLANK: ConfigAsk = ConfigAsk {
+        action: 0,
+        sgl_flags: 0,
+        chain_offset: 0,
+        function: 0x04,
+        ext_page_length: 0,
+        ext_page_type: 0,
+        msg_flags: 0,
+        vp_id: 0,
+        vf_id: 0,
+        reserved_0a: 0,
+        reserved_0c: 0,
+        proxy_vf_id: 0,
+        reserved_0e: 0,
+        reserved_10: 0,
+        page_version: 0,
+        page_length: 0,
+        page_number: 0,
+        page_type: 0,
+        page_address: 0,
+        sge_length: 0,
+        sge_flags: 0xd3,
+        sge_address: 0,
+    };
+
     /// The layout: 22 rows, 40 bytes.
     pub fn layout() -> Layout<22>
         ensures { result ≡ config_ask_layout }

@@ -67,6 +67,27 @@ pub struct ConfigReply {
 }
 
 impl ConfigReply {
+    /// A reply that has in each row 0 or the first number that the row's rule names.
+    pub const BLANK: ConfigReply = ConfigReply {
+        action: 0,
+        sgl_flags: 0,
+        msg_length: 6,
+        function: 0x04,
+        ext_page_length: 0,
+        ext_page_type: 0,
+        msg_flags: 0,
+        vp_id: 0,
+        vf_id: 0,
+        reserved_0a: 0,
+        reserved_0c: 0,
+        ioc_status: 0,
+        ioc_log_info: 0,
+        page_version: 0,
+        page_length: 0,
+        page_number: 0,
+        page_type: 0,
+    };
+
     /// The layout: 17 rows, 24 bytes.
     pub fn layout() -> Layout<17>
         ensures { result ≡ config_reply_layout }

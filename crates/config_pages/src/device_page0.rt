@@ -85,6 +85,33 @@ pub struct DevicePage0 {
 }
 
 impl DevicePage0 {
+    /// A page that has in each row 0 or the first number that the row's rule names.
+    pub const BLANK: DevicePage0 = DevicePage0 {
+        page_version: 0,
+        reserved_01: 0,
+        page_number: 0,
+        page_type: 0,
+        ext_page_length: 0,
+        ext_page_type: 0x12,
+        reserved_07: 0,
+        slot: 0,
+        enclosure_handle: 0,
+        sas_address: 0,
+        parent_dev_handle: 0,
+        phy_num: 0,
+        access_status: 0,
+        dev_handle: 0,
+        attached_phy_identifier: 0,
+        zone_group: 0,
+        device_info: 0,
+        flags: 0,
+        physical_port: 0,
+        max_port_connections: 0,
+        device_name: 0,
+        rest_2c: 0,
+        rest_34: 0,
+    };
+
     /// The layout: 23 rows, 56 bytes.
     pub fn layout() -> Layout<23>
         ensures { result ≡ device_page0_layout }

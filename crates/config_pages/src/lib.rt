@@ -5,8 +5,6 @@ mod config_ask;
 mod config_reply;
 mod device_page0;
 mod page_form;
-#[cfg(test)]
-mod tests;
 
 pub use config_ask::{ConfigAsk, config_ask_fits, decode_config_ask, encode_config_ask};
 pub use config_reply::{ConfigReply, config_reply_fits, decode_config_reply, encode_config_reply};

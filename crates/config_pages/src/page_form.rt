@@ -2,6 +2,8 @@
 ghost use Rattle.std.specs.Prelude.{◌≡◌, ◌+◌};
 ghost use Rattle.config_pages.specs.PageAddress.{form_bits};
 
+use mpi_names::MPI2_SAS_DEVICE_PGAD_FORM_HANDLE;
+
 /// How a page address names a device (mpi2_cnfg.h, MPI2_SAS_DEVICE_PGAD_FORM_MASK).
 #[derive(Clone, Copy, Debug, PartialEq, Eq)]
 pub enum PageForm {
@@ -19,7 +21,7 @@ impl PageForm {
     {
         match self {
             PageForm::Next => 0x0000_0000,
-            PageForm::ByHandle => 0x2000_0000,
+            PageForm::ByHandle => MPI2_SAS_DEVICE_PGAD_FORM_HANDLE,
         }
     }
 }

@@ -11,16 +11,17 @@ use Rattle.mpi_layout.specs.declared.row.Rule.TheVariants.{Any}
 use Rattle.mpi_layout.specs.declared.row.Form.TheVariants.{Number}
 use Rattle.mpi_layout.specs.declared.fault.Fault.{Fault}
 use Rattle.mpi_layout.specs.declared.fault.Fault.TheVariants.{Short}
-use Rattle.mpi_layout.proofs.Writing.{field_front}
+use Rattle.mpi_layout.specs.Tail.{cut_short, padded}
+use Rattle.mpi_layout.proofs.Behind.{Stands-front, fits_at}
 use Rattle.mpi_layout.proofs.Moves.{Stands-no_fault, Stands-same}
+use Rattle.mpi_layout.proofs.Tails.{both, joined, zeros-pass}
+use Rattle.mpi_layout.proofs.Writing.{drop_further, field_front}
 use Rattle.event_msgs.specs.declared.event_data.EventData.{EventData}
 use Rattle.event_msgs.specs.declared.event_data.EventData.TheVariants as variant
 use Rattle.event_msgs.specs.declared.event_reply.EventReply.{EventReply}
-use Rattle.event_msgs.specs.Padding.{padded}
 use Rattle.event_msgs.specs.Topology.{topology_refusal}
 use Rattle.event_msgs.specs.EventData.{DataStands, data_fit, kind_fits}
-use Rattle.event_msgs.specs.EventReply.{EventReplyStands, cut_short, event_reply_fit, event_reply_layout, event_reply_length, event_reply_refusal, event_reply_values}
-use Rattle.event_msgs.proofs.Parts.{Stands-front, both, drop_further, fits_at, joined, zeros-pass}
+use Rattle.event_msgs.specs.EventReply.{EventReplyStands, event_reply_fit, event_reply_layout, event_reply_length, event_reply_refusal, event_reply_values}
 use Rattle.event_msgs.proofs.Entries.{field_behind}
 use Rattle.event_msgs.proofs.TopologyList.{TopologyStands-same, num_entries-read}
 use Rattle.event_msgs.proofs.EventReplyFields.{event_reply_values-injective}

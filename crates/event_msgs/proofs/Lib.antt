@@ -4,7 +4,8 @@ pub mod EventAckReplyFields
 pub mod TopologyEntryFields
 pub mod TopologyFields
 pub mod Entries
-pub mod Parts
+pub mod BlankEntries
 pub mod TopologyList
 pub mod EventReplyFields
 pub mod EventBytes
+mod Blank

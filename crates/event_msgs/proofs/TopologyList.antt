@@ -8,13 +8,15 @@ use Rattle.std.proofs.lemmas.Slice.{take-put_mid_below}
 use borrow.Rule.Slice.PartMut.{put_mid}
 use Rattle.mpi_layout.specs.Rows.{Stands, IsTiled, field, values_fit}
 use Rattle.mpi_layout.specs.declared.fault.Fault.TheVariants.{Field}
+use Rattle.mpi_layout.specs.Tail.{padded}
+use Rattle.mpi_layout.proofs.Behind.{Stands-front}
 use Rattle.mpi_layout.proofs.Moves.{Stands-same}
+use Rattle.mpi_layout.proofs.Tails.{joined, padded_tail, zeros-pass}
 use Rattle.event_msgs.specs.declared.topology.Topology.{Topology}
 use Rattle.event_msgs.specs.declared.topology_entry.TopologyEntry.{TopologyEntry}
-use Rattle.event_msgs.specs.Padding.{padded}
 use Rattle.event_msgs.specs.TopologyEntry.{blank, entry_at, is_blank}
 use Rattle.event_msgs.specs.Topology.{TopologyStands, topology_end, topology_fit, topology_layout, topology_refusal, topology_values}
-use Rattle.event_msgs.proofs.Parts.{Stands-front, blank_entries, blanks-pass, joined, padded_tail, zeros-pass}
+use Rattle.event_msgs.proofs.BlankEntries.{blank_entries, blanks-pass}
 use Rattle.event_msgs.proofs.Entries.{entry_kept}
 use Rattle.event_msgs.proofs.TopologyFields.{topology_values-injective}
 

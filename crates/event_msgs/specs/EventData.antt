@@ -3,13 +3,14 @@ use Rattle.std.specs.Prelude.{◌≡◌, ℕ, ◌-◌, Bool, not, ◌==◌, List
 use Rattle.std.specs.List.{list_all}
 use Rattle.event_msgs.specs.declared.event_data.EventData.{EventData}
 use Rattle.event_msgs.specs.declared.event_data.EventData.TheVariants as variant
-use Rattle.event_msgs.specs.Padding.{padded}
+use Rattle.mpi_layout.specs.Tail.{padded}
+use Rattle.mpi_names.specs.declared.event.TheConstants.{MPI2_EVENT_SAS_TOPOLOGY_CHANGE_LIST}
 use Rattle.event_msgs.specs.Topology.{TopologyStands, topology_end, topology_fit}
 
--- event 001c has a topology change list, any other event data that aren't read
+-- the one event has a topology change list, any other event data that aren't read
 abbrev pub kind_fits : ℕ → EventData → Bool
-kind_fits event (variant.Topology t) = event == 0x1c
-kind_fits event (variant.Other kept) = not (event == 0x1c)
+kind_fits event (variant.Topology t) = event == MPI2_EVENT_SAS_TOPOLOGY_CHANGE_LIST
+kind_fits event (variant.Other kept) = not (event == MPI2_EVENT_SAS_TOPOLOGY_CHANGE_LIST)
 
 -- the bytes of the data stand for them: for a topology change list, or for themselves, with zeros past them
 abbrev pub DataStands : EventData → List ℕ → Type 0

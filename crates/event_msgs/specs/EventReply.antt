@@ -1,10 +1,11 @@
 -- An event: the layout of its fixed part, the numbers of its fields, its length and data, the bytes that stand for it, and which bytes are refused.
-use Rattle.std.specs.Prelude.{ℕ, ◌+◌, ◌*◌, ◌≤◌, IsTrue, Bool, ◌&&◌, ◌==◌, nat_lt, if◌then◌else◌, Option, Some, None, List, [], ◌∷◌, length, take, drop, codes}
+use Rattle.std.specs.Prelude.{ℕ, ◌+◌, ◌*◌, ◌≤◌, IsTrue, Bool, ◌&&◌, ◌==◌, if◌then◌else◌, Option, None, List, [], ◌∷◌, length, take, drop, codes}
 use Rattle.std.specs.Option.{option_or}
 use Rattle.mpi_layout.specs.Rows.{Shape, Stands, field, first_fault, number, values_fit}
 use Rattle.mpi_layout.specs.declared.row.Rule.TheVariants.{Any, Is, Between}
+use Rattle.mpi_layout.specs.Tail.{cut_short}
+use Rattle.mpi_names.specs.declared.event.TheConstants.{MPI2_EVENT_SAS_TOPOLOGY_CHANGE_LIST}
 use Rattle.mpi_layout.specs.declared.fault.Fault.{Fault}
-use Rattle.mpi_layout.specs.declared.fault.Fault.TheVariants.{Short}
 use Rattle.event_msgs.specs.declared.event_reply.EventReply.{EventReply}
 use Rattle.event_msgs.specs.EventData.{DataStands, data_fit, kind_fits}
 use Rattle.event_msgs.specs.Topology.{topology_refusal}
@@ -50,14 +51,14 @@ pub record EventReplyStands (m : EventReply) (bytes : List ℕ) : Type 0 where
   pub kind : IsTrue (kind_fits m.event m.event_data)
   pub event_data : DataStands m.event_data (take (4 * m.event_data_length) (drop 28 bytes))
 
--- Short where there are fewer bytes than are needed
-abbrev pub cut_short : ℕ → List ℕ → Option Fault
-cut_short need bytes = if nat_lt (length bytes) need then Some (Short need (length bytes)) else None
-
 -- the refusal of the bytes: the first fault of the fixed part, or else too few bytes for the EventDataLength, or else that of a topology change list
 abbrev pub event_reply_refusal : List ℕ → Option Fault
 event_reply_refusal bytes =
-    let words = field bytes 0x00 2 in option_or (first_fault event_reply_layout bytes) (option_or (cut_short (28 + 4 * words) bytes) (if field bytes 0x14 2 == 0x1c then topology_refusal words (field bytes 0x24 1) else None))
+    let words = field bytes 0x00 2 in
+    option_or (first_fault event_reply_layout bytes)
+    (option_or (cut_short (28 + 4 * words) bytes)
+    (if field bytes 0x14 2 == MPI2_EVENT_SAS_TOPOLOGY_CHANGE_LIST
+    then topology_refusal words (field bytes 0x24 1) else None))
 
 -- whether some bytes stand for the event
 abbrev pub event_reply_fit : EventReply → Bool

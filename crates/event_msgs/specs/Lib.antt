@@ -1,7 +1,6 @@
 pub mod EventAsk
 pub mod EventAck
 pub mod EventAckReply
-pub mod Padding
 pub mod TopologyEntry
 pub mod Topology
 pub mod EventData

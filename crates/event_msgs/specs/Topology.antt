@@ -6,7 +6,7 @@ use Rattle.mpi_layout.specs.declared.row.Rule.TheVariants.{Any}
 use Rattle.mpi_layout.specs.declared.fault.Fault.{Fault}
 use Rattle.mpi_layout.specs.declared.fault.Fault.TheVariants.{Field}
 use Rattle.event_msgs.specs.declared.topology.Topology.{Topology}
-use Rattle.event_msgs.specs.Padding.{padded}
+use Rattle.mpi_layout.specs.Tail.{padded}
 use Rattle.event_msgs.specs.TopologyEntry.{blank, entry_at, is_blank}
 
 -- mpi2_ioc.h, MPI2_EVENT_DATA_SAS_TOPOLOGY_CHANGE_LIST

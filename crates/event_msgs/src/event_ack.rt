@@ -52,6 +52,22 @@ pub struct EventAck {
 }
 
 impl EventAck {
+    /// A request that has in each row 0 or the first number that the row's rule names.
+    pub const BLANK: EventAck = EventAck {
+        reserved_00: 0,
+        chain_offset: 0,
+        function: 0x08,
+        reserved_04: 0,
+        reserved_06: 0,
+        msg_flags: 0,
+        vp_id: 0,
+        vf_id: 0,
+        reserved_0a: 0,
+        event: 0,
+        reserved_0e: 0,
+        event_context: 0,
+    };
+
     /// The layout: 12 rows, 20 bytes.
     pub fn layout() -> Layout<12>
         ensures { result ≡ event_ack_layout }

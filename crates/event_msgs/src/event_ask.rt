@@ -67,6 +67,27 @@ pub struct EventAsk {
 }
 
 impl EventAsk {
+    /// A request that has in each row 0 or the first number that the row's rule names.
+    pub const BLANK: EventAsk = EventAsk {
+        reserved_00: 0,
+        chain_offset: 0,
+        function: 0x07,
+        reserved_04: 0,
+        reserved_06: 0,
+        msg_flags: 0,
+        vp_id: 0,
+        vf_id: 0,
+        reserved_0a: 0,
+        reserved_0c: 0,
+        event_masks0: 0,
+        event_masks1: 0,
+        event_masks2: 0,
+        event_masks3: 0,
+        sas_broadcast_primitive_masks: 0,
+        sas_notify_primitive_masks: 0,
+        reserved_28: 0,
+    };
+
     /// The layout: 17 rows, 44 bytes.
     pub fn layout() -> Layout<17>
         ensures { result ≡ event_ask_layout }

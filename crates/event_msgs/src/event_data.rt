@@ -3,20 +3,17 @@ ghost use Rattle.std.specs.Prelude.{◌≡◌, ◌==◌, ◌*◌, ◌≤◌, IsT
 ghost use Rattle.std.specs.List.{list_all};
 ghost use Rattle.mpi_layout.specs.Rows.{field};
 ghost use Rattle.event_msgs.specs.EventData.{DataStands, data_fit, data_tail, kind_fits};
-ghost use Rattle.event_msgs.specs.Padding.{padded};
+ghost use Rattle.mpi_layout.specs.Tail.{padded};
 ghost use Rattle.event_msgs.specs.Topology.{topology_refusal};
 
-use crate::padding::{is_zero_from, padded};
 use crate::topology::{Topology, read_topology, topology_fits, write_topology};
-use mpi_layout::Fault;
-
-// mpi2_ioc.h, MPI2_EVENT_SAS_TOPOLOGY_CHANGE_LIST.
-const TOPOLOGY_CHANGE_LIST: u16 = 0x001c;
+use mpi_layout::{Fault, is_zero_from, padded};
+use mpi_names::MPI2_EVENT_SAS_TOPOLOGY_CHANGE_LIST;
 
 /// An event's data (mpi2_ioc.h, EventData of MPI2_EVENT_NOTIFICATION_REPLY).
 #[derive(Clone, Copy, Debug, PartialEq, Eq)]
 pub enum EventData {
-    /// The data of event 001c: a SAS topology change list.
+    /// A SAS topology change list, the data of MPI2_EVENT_SAS_TOPOLOGY_CHANGE_LIST.
     Topology(Topology),
     /// The data of any other event, which aren't read.
     Other {
@@ -31,8 +28,8 @@ impl EventData {
         ensures { result ≡ kind_fits event self.now }
     {
         match self {
-            EventData::Topology(_) => event == TOPOLOGY_CHANGE_LIST,
-            EventData::Other { .. } => event != TOPOLOGY_CHANGE_LIST,
+            EventData::Topology(_) => event == MPI2_EVENT_SAS_TOPOLOGY_CHANGE_LIST,
+            EventData::Other { .. } => event != MPI2_EVENT_SAS_TOPOLOGY_CHANGE_LIST,
         }
     }
 
@@ -69,10 +66,10 @@ pub(crate) fn read_data(event: u16, words: u16, bytes: &[u8]) -> Result<EventDat
     requires few { words ≤ 25 }
     requires whole { length bytes.now ≡ 4 * words }
     ensures read { MatchResult result (λ d. IsTrue (kind_fits event d) × DataStands d bytes.now)
-        (λ fault. (event ≡ 0x1c) × (topology_refusal words (field bytes.now 8 1) ≡ Some fault)) }
+        (λ fault. (event ≡ MPI2_EVENT_SAS_TOPOLOGY_CHANGE_LIST) × (topology_refusal words (field bytes.now 8 1) ≡ Some fault)) }
     ensures fitting { IfOk result (λ d. IsTrue (data_fit (length bytes.now) d)) }
 {
-    if event == TOPOLOGY_CHANGE_LIST {
+    if event == MPI2_EVENT_SAS_TOPOLOGY_CHANGE_LIST {
         Ok(EventData::Topology(read_topology(words, bytes)?))
     } else {
         Ok(EventData::Other {

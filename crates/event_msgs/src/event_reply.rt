@@ -68,6 +68,26 @@ pub struct EventReply {
 }
 
 impl EventReply {
+    /// An event that has in each row 0 or the first number that the row's rule names, and no data.
+    pub const BLANK: EventReply = EventReply {
+        event_data_length: 0,
+        msg_length: 0,
+        function: 0x07,
+        reserved_04: 0,
+        ack_required: 0,
+        msg_flags: 0,
+        vp_id: 0,
+        vf_id: 0,
+        reserved_0a: 0,
+        reserved_0c: 0,
+        ioc_status: 0,
+        ioc_log_info: 0,
+        event: 0,
+        reserved_16: 0,
+        event_context: 0,
+        event_data: EventData::Other { bytes: [0; 100] },
+    };
+
     /// The layout of the fixed part: 15 rows, 28 bytes.
     pub fn layout() -> Layout<15>
         ensures { result ≡ event_reply_layout }

@@ -6,9 +6,6 @@ mod event_ack_reply;
 mod event_ask;
 mod event_data;
 mod event_reply;
-mod padding;
-#[cfg(test)]
-mod tests;
 mod topology;
 mod topology_entry;
 

@@ -5,19 +5,11 @@ ghost use Rattle.mpi_layout.specs.Rows.{cut_from, field};
 ghost use Rattle.event_msgs.specs.TopologyEntry.{blank, entry_at, is_blank};
 ghost use Rattle.event_msgs.specs.Topology.{TopologyStands, topology_end, topology_fit, topology_layout, topology_refusal, topology_values};
 
-use crate::padding::{is_zero_from, padded};
 use crate::topology_entry::{TopologyEntry, read_entry, write_entry};
-use mpi_layout::{Fault, Layout, Row, Rule, fits, low, number, read, write};
+use mpi_layout::{Fault, Layout, Row, Rule, fits, is_zero_from, low, number, padded, read, write};
 
 // The offset of the entries in the event data.
 const ENTRIES: usize = 12;
-
-// An entry that the list doesn't have.
-const BLANK: TopologyEntry = TopologyEntry {
-    attached_dev_handle: 0,
-    link_rate: 0,
-    phy_status: 0,
-};
 
 // mpi2_ioc.h, MPI2_EVENT_DATA_SAS_TOPOLOGY_CHANGE_LIST.
 static TOPOLOGY_ROWS: [Row; 9] = [
@@ -62,6 +54,21 @@ pub struct Topology {
 }
 
 impl Topology {
+    /// A list that has in each row 0 or the first number that the row's rule names, and no entries.
+    pub const BLANK: Topology = Topology {
+        enclosure_handle: 0,
+        expander_dev_handle: 0,
+        num_phys: 0,
+        reserved_21: 0,
+        reserved_22: 0,
+        num_entries: 0,
+        start_phy_num: 0,
+        exp_status: 0,
+        physical_port: 0,
+        entries: [TopologyEntry::BLANK; 22],
+        tail: [0; 88],
+    };
+
     /// The layout of the rows in front of the entries: 9 rows, 12 bytes from byte 28 of the event
     /// on, from which its offsets count.
     pub fn layout() -> Layout<9>
@@ -101,7 +108,7 @@ impl Topology {
             start_phy_num: low!(values[6], 1),
             exp_status: low!(values[7], 1),
             physical_port: low!(values[8], 1),
-            entries: [BLANK; 22],
+            entries: [TopologyEntry::BLANK; 22],
             tail: [0; 88],
         }
     }
@@ -138,7 +145,7 @@ fn read_entries(bytes: &[u8], count: usize) -> Result<[TopologyEntry; 22], Fault
     ensures { result ≡ Ok (map (λ i. entry_at bytes.now (12 + 4 * i)) (range_with_len 0 count)
         ++ replicate (22 - count) blank) }
 {
-    let mut entries = [BLANK; 22];
+    let mut entries = [TopologyEntry::BLANK; 22];
     for i in 0..count {
         entries[i] = read_entry(&bytes[ENTRIES + 4 * i..])?;
     }

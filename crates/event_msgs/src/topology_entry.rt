@@ -26,6 +26,13 @@ pub struct TopologyEntry {
 }
 
 impl TopologyEntry {
+    /// An entry that has in each row 0 or the first number that the row's rule names.
+    pub const BLANK: TopologyEntry = TopologyEntry {
+        attached_dev_handle: 0,
+        link_rate: 0,
+        phy_status: 0,
+    };
+
     /// The layout: 3 rows, 4 bytes.
     pub fn layout() -> Layout<3>
         ensures { result ≡ topology_entry_layout }

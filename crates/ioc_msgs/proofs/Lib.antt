@@ -8,3 +8,4 @@ pub mod PortEnableFields
 pub mod PortEnableReplyFields
 pub mod UnitControlFields
 pub mod UnitControlReplyFields
+mod Blank

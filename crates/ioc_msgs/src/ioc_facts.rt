@@ -43,6 +43,19 @@ pub struct IocFacts {
 }
 
 impl IocFacts {
+    /// A request that has in each row 0 or the first number that the row's rule names.
+    pub const BLANK: IocFacts = IocFacts {
+        reserved_00: 0,
+        chain_offset: 0,
+        function: 0x03,
+        reserved_04: 0,
+        reserved_06: 0,
+        msg_flags: 0,
+        vp_id: 0,
+        vf_id: 0,
+        reserved_0a: 0,
+    };
+
     /// The layout: 9 rows, 12 bytes.
     pub fn layout() -> Layout<9>
         ensures { result ≡ ioc_facts_layout }

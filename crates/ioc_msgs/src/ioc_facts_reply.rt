@@ -121,6 +121,45 @@ pub struct IocFactsReply {
 }
 
 impl IocFactsReply {
+    /// A reply that has in each row 0 or the first number that the row's rule names.
+    pub const BLANK: IocFactsReply = IocFactsReply {
+        msg_version: 0,
+        msg_length: 16,
+        function: 0x03,
+        header_version: 0,
+        ioc_number: 0,
+        msg_flags: 0,
+        vp_id: 0,
+        vf_id: 0,
+        reserved_0a: 0,
+        ioc_exceptions: 0,
+        ioc_status: 0,
+        ioc_log_info: 0,
+        max_chain_depth: 0,
+        who_init: 0,
+        number_of_ports: 0,
+        max_msix_vectors: 0,
+        request_credit: 0,
+        product_id: 0,
+        ioc_capabilities: 0,
+        fw_version: 0,
+        ioc_request_frame_size: 0,
+        reserved_26: 0,
+        max_initiators: 0,
+        max_targets: 0,
+        max_sas_expanders: 0,
+        max_enclosures: 0,
+        protocol_flags: 0,
+        high_priority_credit: 0,
+        max_reply_descriptor_post_queue_depth: 0,
+        reply_frame_size: 0,
+        max_volumes: 0,
+        max_dev_handle: 0,
+        max_persistent_entries: 0,
+        min_dev_handle: 0,
+        reserved_3e: 0,
+    };
+
     /// The layout: 35 rows, 64 bytes.
     pub fn layout() -> Layout<35>
         ensures { result ≡ ioc_facts_reply_layout }

@@ -91,6 +91,35 @@ pub struct IocInit {
 }
 
 impl IocInit {
+    /// A request that has in each row 0 or the first number that the row's rule names.
+    pub const BLANK: IocInit = IocInit {
+        who_init: 0,
+        reserved_01: 0,
+        chain_offset: 0,
+        function: 0x02,
+        reserved_04: 0,
+        reserved_06: 0,
+        msg_flags: 0,
+        vp_id: 0,
+        vf_id: 0,
+        reserved_0a: 0,
+        msg_version: 0x0200,
+        header_version: 0,
+        reserved_10: 0,
+        reserved_14: 0,
+        host_msix_vectors: 0,
+        reserved_18: 0,
+        system_request_frame_size: 0,
+        reply_descriptor_post_queue_depth: 0,
+        reply_free_queue_depth: 0,
+        sense_buffer_address_high: 0,
+        system_reply_address_high: 0,
+        system_request_frame_base_address: 0,
+        reply_descriptor_post_queue_address: 0,
+        reply_free_queue_address: 0,
+        time_stamp: 0,
+    };
+
     /// The layout: 25 rows, 72 bytes.
     pub fn layout() -> Layout<25>
         ensures { result ≡ ioc_init_layout }

@@ -10,8 +10,6 @@ mod port_enable;
 mod port_enable_reply;
 mod port_facts;
 mod port_facts_reply;
-#[cfg(test)]
-mod tests;
 mod unit_control;
 mod unit_control_reply;
 

@@ -46,6 +46,20 @@ pub struct PortEnable {
 }
 
 impl PortEnable {
+    /// A request that has in each row 0 or the first number that the row's rule names.
+    pub const BLANK: PortEnable = PortEnable {
+        reserved_00: 0,
+        chain_offset: 0,
+        function: 0x06,
+        reserved_04: 0,
+        port_flags: 0,
+        reserved_06: 0,
+        msg_flags: 0,
+        vp_id: 0,
+        vf_id: 0,
+        reserved_0a: 0,
+    };
+
     /// The layout: 10 rows, 12 bytes.
     pub fn layout() -> Layout<10>
         ensures { result ≡ port_enable_layout }

@@ -42,6 +42,19 @@ pub struct PortFacts {
 }
 
 impl PortFacts {
+    /// A request that has in each row 0 or the first number that the row's rule names.
+    pub const BLANK: PortFacts = PortFacts {
+        reserved_00: 0,
+        chain_offset: 0,
+        function: 0x05,
+        reserved_04: 0,
+        port_number: 0,
+        msg_flags: 0,
+        vp_id: 0,
+        vf_id: 0,
+        reserved_0a: 0,
+    };
+
     /// The layout: 9 rows, 12 bytes.
     pub fn layout() -> Layout<9>
         ensures { result ≡ port_facts_layout }

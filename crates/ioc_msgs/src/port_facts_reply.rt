@@ -66,6 +66,27 @@ pub struct PortFactsReply {
 }
 
 impl PortFactsReply {
+    /// A reply that has in each row 0 or the first number that the row's rule names.
+    pub const BLANK: PortFactsReply = PortFactsReply {
+        reserved_00: 0,
+        msg_length: 7,
+        function: 0x05,
+        reserved_04: 0,
+        port_number: 0,
+        msg_flags: 0,
+        vp_id: 0,
+        vf_id: 0,
+        reserved_0a: 0,
+        reserved_0c: 0,
+        ioc_status: 0,
+        ioc_log_info: 0,
+        reserved_14: 0,
+        port_type: 0,
+        reserved_16: 0,
+        max_posted_cmd_buffers: 0,
+        reserved_1a: 0,
+    };
+
     /// The layout: 17 rows, 28 bytes.
     pub fn layout() -> Layout<17>
         ensures { result ≡ port_facts_reply_layout }

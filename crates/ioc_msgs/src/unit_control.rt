@@ -76,6 +76,30 @@ pub struct UnitControl {
 }
 
 impl UnitControl {
+    /// A request that has in each row 0 or the first number that the row's rule names.
+    pub const BLANK: UnitControl = UnitControl {
+        operation: 0,
+        reserved_01: 0,
+        chain_offset: 0,
+        function: 0x1b,
+        dev_handle: 0,
+        ioc_parameter: 0,
+        msg_flags: 0,
+        vp_id: 0,
+        vf_id: 0,
+        reserved_0a: 0,
+        reserved_0c: 0,
+        phy_num: 0,
+        prim_flags: 0,
+        primitive: 0,
+        lookup_method: 0,
+        reserved_15: 0,
+        slot_number: 0,
+        lookup_address: 0,
+        ioc_parameter_value: 0,
+        reserved_24: 0,
+    };
+
     /// The layout: 20 rows, 44 bytes.
     pub fn layout() -> Layout<20>
         ensures { result ≡ unit_control_layout }

@@ -55,6 +55,23 @@ pub struct UnitControlReply {
 }
 
 impl UnitControlReply {
+    /// A reply that has in each row 0 or the first number that the row's rule names.
+    pub const BLANK: UnitControlReply = UnitControlReply {
+        operation: 0,
+        reserved_01: 0,
+        msg_length: 5,
+        function: 0x1b,
+        dev_handle: 0,
+        ioc_parameter: 0,
+        msg_flags: 0,
+        vp_id: 0,
+        vf_id: 0,
+        reserved_0a: 0,
+        reserved_0c: 0,
+        ioc_status: 0,
+        ioc_log_info: 0,
+    };
+
     /// The layout: 13 rows, 20 bytes.
     pub fn layout() -> Layout<13>
         ensures { result ≡ unit_control_reply_layout }

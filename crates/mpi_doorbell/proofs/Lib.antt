@@ -6,3 +6,4 @@ pub mod DoorDwords
 pub mod HostTurns
 pub mod HostRuns
 pub mod Meetings
+pub mod Constants

@@ -16,17 +16,8 @@ pub const HOST_INTERRUPT_STATUS: u16 = 0x30;
 /// HostInterruptMask (mpi2.h, MPI2_HOST_INTERRUPT_MASK_OFFSET).
 pub const HOST_INTERRUPT_MASK: u16 = 0x34;
 
-/// ReplyFreeHostIndex (mpi2.h, MPI2_REPLY_FREE_HOST_INDEX_OFFSET).
-pub const REPLY_FREE_HOST_INDEX: u16 = 0x48;
-
 /// ReplyPostHostIndex (mpi2.h, MPI2_REPLY_POST_HOST_INDEX_OFFSET).
 pub const REPLY_POST_HOST_INDEX: u16 = 0x6C;
-
-/// RequestDescriptorPostLow (mpi2.h, MPI2_REQUEST_DESCRIPTOR_POST_LOW_OFFSET).
-pub const REQUEST_DESCRIPTOR_POST_LOW: u16 = 0xC0;
-
-/// RequestDescriptorPostHigh (mpi2.h, MPI2_REQUEST_DESCRIPTOR_POST_HIGH_OFFSET).
-pub const REQUEST_DESCRIPTOR_POST_HIGH: u16 = 0xC4;
 
 /// Doorbell: the four bits of the state (mpi2.h, MPI2_IOC_STATE_MASK).
 pub const IOC_STATE_MASK: u32 = 0xF000_0000;

@@ -5,3 +5,5 @@ pub mod Writing
 pub mod Widths
 pub mod Moves
 pub mod Obeyed
+pub mod Behind
+pub mod Tails

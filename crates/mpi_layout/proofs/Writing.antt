@@ -61,7 +61,7 @@ written_at old at width v buf room small is =
     }
 
 -- what is behind both offsets is the same
-drop_further : (xs ys : List ℕ) (n m : ℕ) → n ≤ m → drop n xs ≡ drop n ys → drop m xs ≡ drop m ys
+pub drop_further : (xs ys : List ℕ) (n m : ℕ) → n ≤ m → drop n xs ≡ drop n ys → drop m xs ≡ drop m ys
 drop_further xs ys n m le same =
     let sum : n + (m - n) ≡ m = omega arith in
     let left = ap (λ k. drop k xs) (sym sum) ∙ sym (drop-drop (m - n) n xs) in

@@ -74,6 +74,17 @@ abbrev pub first_fault : Shape → List ℕ → Option Fault
 first_fault layout bytes =
     if nat_lt (length bytes) layout.length then Some (Short layout.length (length bytes)) else option_map (λ row. Field row.at) (find (breaks bytes) layout.rows)
 
+-- the number of a blank message in a row with the rule: 0, or the first that the rule names
+abbrev pub blank_number : Rule → ℕ
+blank_number (rule.Is only) = only
+blank_number (rule.OneOf values count) = slice_index values 0
+blank_number (rule.Between least most) = least
+blank_number _ = 0
+
+-- the numbers of a blank message
+abbrev pub blank_values : Shape → List ℕ
+blank_values layout = map (λ (row : RowShape). blank_number row.rule) layout.rows
+
 -- whether a number fits its row's width and rule
 abbrev pub value_fits : RowShape → ℕ → Bool
 value_fits row value = nat_lt value (256 ^ row.width) && obeys row.rule value

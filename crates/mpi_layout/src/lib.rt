@@ -4,12 +4,14 @@
 mod fault;
 mod layout;
 mod row;
+mod tail;
 #[cfg(test)]
 mod tests;
 
 pub use fault::Fault;
 pub use layout::{Layout, fits, read, write};
 pub use row::{Form, Row, Rule};
+pub use tail::{is_zero_from, padded};
 
 /// A row that a listing shows as a number: `number!(offset, width, name, rule)`.
 #[macro_export]

@@ -5,7 +5,8 @@ use Rattle.std.proofs.lemmas.Bool.Decides.{nat_tests}
 use Rattle.std.proofs.lemmas.Grind.{get_or_default_zero}
 use Rattle.std.proofs.lemmas.List.{length-set, length-replicate, length-drop, length-take, replicate-append-replicate, append-nil}
 use Rattle.std.proofs.Math.Seq.{set-append_seam, append_snoc, get_or-append_seam}
-use Rattle.mpi_rings.specs.PostEntries.{IsInOrder, from_index, is_used, unused, waiting_in}
+use Rattle.mpi_names.specs.declared.descriptor.TheConstants.{UNUSED_ENTRY}
+use Rattle.mpi_rings.specs.PostEntries.{IsInOrder, from_index, is_used, waiting_in}
 use Rattle.mpi_rings.proofs.Rounds.{IsPlace, round_by_one, round_set, round_get, take_while-before, take_while-all}
 
 -- these descriptors stand in the entries from the host index on, and all others are unused
@@ -13,7 +14,7 @@ pub record Holds (entries : List ℕ) (post host : ℕ) (waiting : List ℕ) : T
   pub size : length entries ≡ 352
   pub host_less : host < 352
   pub used : list_all is_used waiting ≡ true
-  pub rest : from_index host entries ≡ waiting ++ replicate (352 - length waiting) unused
+  pub rest : from_index host entries ≡ waiting ++ replicate (352 - length waiting) UNUSED_ENTRY
   pub place : post ≡ (host + length waiting) % 352
 
 -- those that wait do
@@ -28,7 +29,7 @@ holds entries post host order = record {
 
 -- and no others
 pub holds_waiting : (entries : List ℕ) (post host : ℕ) (waiting : List ℕ) → Holds entries post host waiting → waiting_in entries host ≡ waiting
-holds_waiting entries post host waiting h = ap (take_while is_used) h.rest ∙ take_while-before is_used waiting unused (352 - length waiting) h.used refl
+holds_waiting entries post host waiting h = ap (take_while is_used) h.rest ∙ take_while-before is_used waiting UNUSED_ENTRY (352 - length waiting) h.used refl
 
 pub holds_order : (entries : List ℕ) (post host : ℕ) (waiting : List ℕ) → Holds entries post host waiting → IsInOrder entries post host
 holds_order entries post host waiting h =
@@ -36,7 +37,7 @@ holds_order entries post host waiting h =
     record {
       size = h.size;
       host = h.host_less;
-      rest = subst (λ (ws : List ℕ). from_index host entries ≡ ws ++ replicate (352 - length ws) unused) is h.rest;
+      rest = subst (λ (ws : List ℕ). from_index host entries ≡ ws ++ replicate (352 - length ws) UNUSED_ENTRY) is h.rest;
       post = subst (λ (ws : List ℕ). post ≡ (host + length ws) % 352) is h.place;
     }
 
@@ -44,7 +45,7 @@ holds_order entries post host waiting h =
 pub holds_most : (entries : List ℕ) (post host : ℕ) (waiting : List ℕ) → Holds entries post host waiting → length waiting ≤ 352
 holds_most entries post host waiting h =
     let whole : length (drop host entries) + length (take host entries) ≡ length waiting + (352 - length waiting) =
-    sym (length-append (drop host entries) (take host entries)) ∙ ap length h.rest ∙ length-append waiting (replicate (352 - length waiting) unused) ∙ ap (λ k. length waiting + k) (length-replicate (352 - length waiting) unused) in
+    sym (length-append (drop host entries) (take host entries)) ∙ ap length h.rest ∙ length-append waiting (replicate (352 - length waiting) UNUSED_ENTRY) ∙ ap (λ k. length waiting + k) (length-replicate (352 - length waiting) UNUSED_ENTRY) in
     let ahead = length-drop host entries in
     let behind = length-take host entries in
     let size = h.size in
@@ -59,14 +60,14 @@ place_of host i less few = split (ltb (host + i) 352) refl where
   split false is = (let outside : 352 ≤ host + i = grind (arith, nat_tests) in inr (omega arith, omega arith))
 
 -- the unused entries, one by one
-unused_more : (n : ℕ) → n < 352 → replicate (352 - n) unused ≡ unused ∷ replicate (352 - (n + 1)) unused
+unused_more : (n : ℕ) → n < 352 → replicate (352 - n) UNUSED_ENTRY ≡ UNUSED_ENTRY ∷ replicate (352 - (n + 1)) UNUSED_ENTRY
 unused_more n less = let more : 352 - n ≡ suc (352 - (n + 1)) = omega arith in rw more refl
 
-unused_one : (k : ℕ) → replicate k unused ++ unused ∷ [] ≡ replicate (k + 1) unused
-unused_one k = replicate-append-replicate k 1 unused
+unused_one : (k : ℕ) → replicate k UNUSED_ENTRY ++ UNUSED_ENTRY ∷ [] ≡ replicate (k + 1) UNUSED_ENTRY
+unused_one k = replicate-append-replicate k 1 UNUSED_ENTRY
 
 -- one more descriptor is used
-all_more : (waiting : List ℕ) (d : ℕ) → list_all is_used waiting ≡ true → d ≢ unused → list_all is_used (waiting ++ d ∷ []) ≡ true
+all_more : (waiting : List ℕ) (d : ℕ) → list_all is_used waiting ≡ true → d ≢ UNUSED_ENTRY → list_all is_used (waiting ++ d ∷ []) ≡ true
 all_more [] d all used = grind (arith, nat_tests)
 all_more (x ∷ waiting) d all used =
     let parts : (is_used x ≡ true) × (list_all is_used waiting ≡ true) = grind (arith, nat_tests) in
@@ -81,20 +82,20 @@ next_index host less = split (ltb (host + 1) 352) refl where
   split false is = (let outside : 352 ≤ host + 1 = grind (arith, nat_tests) in inr (omega arith, omega arith))
 
 -- a new ring
-pub new_holds : Holds (replicate 352 unused) 0 0 []
-new_holds = record { size = length-replicate 352 unused; host_less = omega arith; used = refl; rest = append-nil (replicate 352 unused); place = refl }
+pub new_holds : Holds (replicate 352 UNUSED_ENTRY) 0 0 []
+new_holds = record { size = length-replicate 352 UNUSED_ENTRY; host_less = omega arith; used = refl; rest = append-nil (replicate 352 UNUSED_ENTRY); place = refl }
 
 -- a post
-pub post_holds : (entries : List ℕ) (post host : ℕ) (waiting : List ℕ) (d : ℕ) → Holds entries post host waiting → length waiting < 352 → d ≢ unused → Holds (set entries post d) ((post + 1) % 352) host (waiting ++ d ∷ [])
+pub post_holds : (entries : List ℕ) (post host : ℕ) (waiting : List ℕ) (d : ℕ) → Holds entries post host waiting → length waiting < 352 → d ≢ UNUSED_ENTRY → Holds (set entries post d) ((post + 1) % 352) host (waiting ++ d ∷ [])
 post_holds entries post host waiting d h room used =
     let place : IsPlace 352 host (length waiting) post = subst (IsPlace 352 host (length waiting)) (sym h.place) (place_of host (length waiting) h.host_less room) in
     let long : length (waiting ++ d ∷ []) ≡ length waiting + 1 = length-append waiting (d ∷ []) in
-    let front : from_index host (set entries post d) ≡ set (waiting ++ replicate (352 - length waiting) unused) (length waiting) d =
+    let front : from_index host (set entries post d) ≡ set (waiting ++ replicate (352 - length waiting) UNUSED_ENTRY) (length waiting) d =
     round_set entries 352 host (length waiting) post d h.size h.host_less place ∙ ap (λ xs. set xs (length waiting) d) h.rest in
-    let seam : set (waiting ++ replicate (352 - length waiting) unused) (length waiting) d ≡ waiting ++ d ∷ replicate (352 - (length waiting + 1)) unused =
-    ap (λ (xs : List ℕ). set (waiting ++ xs) (length waiting) d) (unused_more (length waiting) room) ∙ set-append_seam waiting unused (replicate (352 - (length waiting + 1)) unused) d in
-    let rest : waiting ++ d ∷ replicate (352 - (length waiting + 1)) unused ≡ (waiting ++ d ∷ []) ++ replicate (352 - length (waiting ++ d ∷ [])) unused =
-    sym (append_snoc waiting d (replicate (352 - (length waiting + 1)) unused)) ∙ ap (λ n. (waiting ++ d ∷ []) ++ replicate (352 - n) unused) (sym long) in
+    let seam : set (waiting ++ replicate (352 - length waiting) UNUSED_ENTRY) (length waiting) d ≡ waiting ++ d ∷ replicate (352 - (length waiting + 1)) UNUSED_ENTRY =
+    ap (λ (xs : List ℕ). set (waiting ++ xs) (length waiting) d) (unused_more (length waiting) room) ∙ set-append_seam waiting UNUSED_ENTRY (replicate (352 - (length waiting + 1)) UNUSED_ENTRY) d in
+    let rest : waiting ++ d ∷ replicate (352 - (length waiting + 1)) UNUSED_ENTRY ≡ (waiting ++ d ∷ []) ++ replicate (352 - length (waiting ++ d ∷ [])) UNUSED_ENTRY =
+    sym (append_snoc waiting d (replicate (352 - (length waiting + 1)) UNUSED_ENTRY)) ∙ ap (λ n. (waiting ++ d ∷ []) ++ replicate (352 - n) UNUSED_ENTRY) (sym long) in
     record {
       size = simp length-set h.size;
       host_less = h.host_less;
@@ -104,15 +105,15 @@ post_holds entries post host waiting d h room used =
     }
 
 -- a reading
-pub read_holds : (entries : List ℕ) (post host d : ℕ) (waiting : List ℕ) → Holds entries post host (d ∷ waiting) → Holds (set entries host unused) post ((host + 1) % 352) waiting
+pub read_holds : (entries : List ℕ) (post host d : ℕ) (waiting : List ℕ) → Holds entries post host (d ∷ waiting) → Holds (set entries host UNUSED_ENTRY) post ((host + 1) % 352) waiting
 read_holds entries post host d waiting h =
     let most : length (d ∷ waiting) ≤ 352 = holds_most entries post host (d ∷ waiting) h in
     let less = h.host_less in
     let at = h.place in
-    let on = round_by_one entries 352 host ((host + 1) % 352) unused h.size h.host_less (next_index host less) in
+    let on = round_by_one entries 352 host ((host + 1) % 352) UNUSED_ENTRY h.size h.host_less (next_index host less) in
     let count : 352 - length (d ∷ waiting) + 1 ≡ 352 - length waiting = omega arith in
-    let rest : drop 1 (from_index host entries) ++ unused ∷ [] ≡ waiting ++ replicate (352 - length waiting) unused =
-    ap (λ (xs : List ℕ). drop 1 xs ++ unused ∷ []) h.rest ∙ append_assoc waiting (replicate (352 - length (d ∷ waiting)) unused) (unused ∷ []) ∙ ap (λ xs. waiting ++ xs) (unused_one (352 - length (d ∷ waiting)) ∙ ap (λ k. replicate k unused) count) in
+    let rest : drop 1 (from_index host entries) ++ UNUSED_ENTRY ∷ [] ≡ waiting ++ replicate (352 - length waiting) UNUSED_ENTRY =
+    ap (λ (xs : List ℕ). drop 1 xs ++ UNUSED_ENTRY ∷ []) h.rest ∙ append_assoc waiting (replicate (352 - length (d ∷ waiting)) UNUSED_ENTRY) (UNUSED_ENTRY ∷ []) ∙ ap (λ xs. waiting ++ xs) (unused_one (352 - length (d ∷ waiting)) ∙ ap (λ k. replicate k UNUSED_ENTRY) count) in
     record {
       size = simp length-set h.size;
       host_less = omega arith;
@@ -122,27 +123,27 @@ read_holds entries post host d waiting h =
     }
 
 -- the entry at the post index, where fewer than 352 wait and where 352 do
-pub post_unused : (entries : List ℕ) (post host : ℕ) (waiting : List ℕ) → Holds entries post host waiting → length waiting < 352 → get_or entries post 0 ≡ unused
+pub post_unused : (entries : List ℕ) (post host : ℕ) (waiting : List ℕ) → Holds entries post host waiting → length waiting < 352 → get_or entries post 0 ≡ UNUSED_ENTRY
 post_unused entries post host waiting h room =
     let place : IsPlace 352 host (length waiting) post = subst (IsPlace 352 host (length waiting)) (sym h.place) (place_of host (length waiting) h.host_less room) in
     round_get entries 352 host (length waiting) post 0 h.size h.host_less place
     ∙ ap (λ xs. get_or xs (length waiting) 0) (h.rest ∙ ap (λ xs. waiting ++ xs) (unused_more (length waiting) room))
-    ∙ get_or-append_seam waiting unused (replicate (352 - (length waiting + 1)) unused) 0
+    ∙ get_or-append_seam waiting UNUSED_ENTRY (replicate (352 - (length waiting + 1)) UNUSED_ENTRY) 0
 
 -- the entry at the host index
-host_entry : (entries : List ℕ) (post host : ℕ) (waiting : List ℕ) → Holds entries post host waiting → get_or entries host 0 ≡ get_or (waiting ++ replicate (352 - length waiting) unused) 0 0
+host_entry : (entries : List ℕ) (post host : ℕ) (waiting : List ℕ) → Holds entries post host waiting → get_or entries host 0 ≡ get_or (waiting ++ replicate (352 - length waiting) UNUSED_ENTRY) 0 0
 host_entry entries post host waiting h =
     let less = h.host_less in
     round_get entries 352 host 0 host 0 h.size h.host_less (inl (omega arith, omega arith)) ∙ ap (λ xs. get_or xs 0 0) h.rest
 
-pub host_used : (entries : List ℕ) (post host d : ℕ) (waiting : List ℕ) → Holds entries post host (d ∷ waiting) → (get_or entries host 0 ≡ d) × (d ≢ unused)
+pub host_used : (entries : List ℕ) (post host d : ℕ) (waiting : List ℕ) → Holds entries post host (d ∷ waiting) → (get_or entries host 0 ≡ d) × (d ≢ UNUSED_ENTRY)
 host_used entries post host d waiting h = (host_entry entries post host (d ∷ waiting) h, grind (arith, nat_tests, h.used))
 
-pub host_unused : (entries : List ℕ) (post host : ℕ) → Holds entries post host [] → get_or entries host 0 ≡ unused
+pub host_unused : (entries : List ℕ) (post host : ℕ) → Holds entries post host [] → get_or entries host 0 ≡ UNUSED_ENTRY
 host_unused entries post host h = host_entry entries post host [] h
 
 -- 352 descriptors wait exactly where the entry at the post index is used
-pub post_full : (entries : List ℕ) (post host : ℕ) (waiting : List ℕ) → Holds entries post host waiting → length waiting ≡ 352 → get_or entries post 0 ≢ unused
+pub post_full : (entries : List ℕ) (post host : ℕ) (waiting : List ℕ) → Holds entries post host waiting → length waiting ≡ 352 → get_or entries post 0 ≢ UNUSED_ENTRY
 post_full entries post host [] h full = absurd (omega arith)
 post_full entries post host (d ∷ waiting) h full =
     let same : post ≡ host = (let at = h.place in let less = h.host_less in omega arith) in
@@ -152,7 +153,7 @@ post_full entries post host (d ∷ waiting) h full =
     rw same (λ e. used (sym oldest ∙ e))
 
 -- the oldest descriptor
-pub oldest_used : (entries : List ℕ) (post host : ℕ) (waiting : List ℕ) → Holds entries post host waiting → get_or entries host 0 ≢ unused → slice_get waiting 0 ≡ Some (get_or entries host 0)
+pub oldest_used : (entries : List ℕ) (post host : ℕ) (waiting : List ℕ) → Holds entries post host waiting → get_or entries host 0 ≢ UNUSED_ENTRY → slice_get waiting 0 ≡ Some (get_or entries host 0)
 oldest_used entries post host [] h used = absurd (used (host_unused entries post host h))
 oldest_used entries post host (d ∷ waiting) h used = ap Some (sym (host_used entries post host d waiting h).0)
 
@@ -164,28 +165,28 @@ post_less : (entries : List ℕ) (post host : ℕ) (waiting : List ℕ) → Hold
 post_less entries post host waiting h = let at = h.place in omega arith
 
 -- what the entry at the post index says
-pub is_full_test : (entries : List ℕ) (post host entry : ℕ) (waiting : List ℕ) → Holds entries post host waiting → entry ≡ get_or entries post entry → (IsTrue (not (entry == unused)) → length waiting ≡ 352) × (length waiting ≡ 352 → IsTrue (not (entry == unused)))
+pub is_full_test : (entries : List ℕ) (post host entry : ℕ) (waiting : List ℕ) → Holds entries post host waiting → entry ≡ get_or entries post entry → (IsTrue (not (entry == UNUSED_ENTRY)) → length waiting ≡ 352) × (length waiting ≡ 352 → IsTrue (not (entry == UNUSED_ENTRY)))
 is_full_test entries post host entry waiting h is =
     let at = read_entry entries post entry h.size (post_less entries post host waiting h) is in
     let most = holds_most entries post host waiting h in (
       λ used. full (ltb (length waiting) 352) refl at most used,
-      λ whole. (let apart : entry ≢ unused = λ e. post_full entries post host waiting h whole (sym at ∙ e) in grind (arith, nat_tests)),
+      λ whole. (let apart : entry ≢ UNUSED_ENTRY = λ e. post_full entries post host waiting h whole (sym at ∙ e) in grind (arith, nat_tests)),
     )
   where
-    full : (few : Bool) → ltb (length waiting) 352 ≡ few → entry ≡ get_or entries post 0 → length waiting ≤ 352 → IsTrue (not (entry == unused)) → length waiting ≡ 352
+    full : (few : Bool) → ltb (length waiting) 352 ≡ few → entry ≡ get_or entries post 0 → length waiting ≤ 352 → IsTrue (not (entry == UNUSED_ENTRY)) → length waiting ≡ 352
     full true room at most used =
         let less : length waiting < 352 = grind (arith, nat_tests) in
-        let e : entry ≡ unused = at ∙ post_unused entries post host waiting h less in
+        let e : entry ≡ UNUSED_ENTRY = at ∙ post_unused entries post host waiting h less in
         absurd (grind (arith, nat_tests))
     full false room at most used = grind (arith, nat_tests)
 
 -- what the entry at the host index is
-pub oldest_read : (entries : List ℕ) (post host entry : ℕ) (waiting : List ℕ) → Holds entries post host waiting → entry ≡ get_or entries host entry → entry ≢ unused → Some entry ≡ slice_get waiting 0
+pub oldest_read : (entries : List ℕ) (post host entry : ℕ) (waiting : List ℕ) → Holds entries post host waiting → entry ≡ get_or entries host entry → entry ≢ UNUSED_ENTRY → Some entry ≡ slice_get waiting 0
 oldest_read entries post host entry waiting h is used =
     let at = read_entry entries host entry h.size h.host_less is in
     ap Some at ∙ sym (oldest_used entries post host waiting h (λ e. used (at ∙ e)))
 
 -- a reading where a descriptor waits
-pub read_leaves : (entries : List ℕ) (post host : ℕ) (waiting : List ℕ) → Holds entries post host waiting → 0 < length waiting → Holds (set entries host unused) post ((host + 1) % 352) (drop 1 waiting)
+pub read_leaves : (entries : List ℕ) (post host : ℕ) (waiting : List ℕ) → Holds entries post host waiting → 0 < length waiting → Holds (set entries host UNUSED_ENTRY) post ((host + 1) % 352) (drop 1 waiting)
 read_leaves entries post host [] h some = absurd (omega arith)
 read_leaves entries post host (d ∷ waiting) h some = read_holds entries post host d waiting h

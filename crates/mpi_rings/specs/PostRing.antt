@@ -1,5 +1,6 @@
 -- A reply post ring: the descriptors that wait to be read, and where the host reads.
 use Rattle.std.specs.Prelude.{ℕ, ◌+◌, ◌%◌, List, [], ◌∷◌, ◌++◌, drop}
+use Rattle.mpi_names.specs.declared.memory.TheConstants.{POST_RING_ENTRIES}
 
 -- the descriptors posted and not yet read, the oldest first, and the host index, from 0 to 351. They
 -- stand in the entries from the host index on, modulo 352, and all other entries are unused
@@ -17,4 +18,4 @@ with_posted ring d = record { waiting = ring.waiting ++ d ∷ []; host_index = r
 
 -- the oldest is read and its entry unused again, so that the host index moves on by one, modulo 352
 abbrev pub with_first_read : PostState → PostState
-with_first_read ring = record { waiting = drop 1 ring.waiting; host_index = (ring.host_index + 1) % 352 }
+with_first_read ring = record { waiting = drop 1 ring.waiting; host_index = (ring.host_index + 1) % POST_RING_ENTRIES }

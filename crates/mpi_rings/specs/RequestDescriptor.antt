@@ -3,11 +3,12 @@ use Rattle.std.specs.Prelude.{ℕ, List, [], ◌∷◌, codes}
 use Rattle.mpi_layout.specs.Rows.{Shape, Stands, number}
 use Rattle.mpi_layout.specs.declared.row.Rule.{Rule}
 use Rattle.mpi_layout.specs.declared.row.Rule.TheVariants.{Any, OneOf}
+use Rattle.mpi_names.specs.declared.descriptor.TheConstants.{MPI2_REQ_DESCRIPT_FLAGS_DEFAULT_TYPE, MPI2_REQ_DESCRIPT_FLAGS_HIGH_PRIORITY, MPI2_REQ_DESCRIPT_FLAGS_SCSI_IO}
 use Rattle.mpi_rings.specs.declared.request_descriptor.PostKind.{PostKind}
 use Rattle.mpi_rings.specs.declared.request_descriptor.PostKind.TheVariants.{ScsiIo, HighPriority, Default}
 use Rattle.mpi_rings.specs.declared.request_descriptor.RequestDescriptor.{RequestDescriptor}
 
--- the RequestFlags of this profile
+-- the RequestFlags of this profile: mpi2.h, MPI2_REQ_DESCRIPT_FLAGS_SCSI_IO, .._HIGH_PRIORITY and .._DEFAULT_TYPE
 abbrev pub request_flags : Rule
 request_flags = OneOf (0x00 ∷ 0x06 ∷ 0x08 ∷ 0 ∷ []) 3
 
@@ -27,9 +28,9 @@ request_layout = record {
 
 -- the RequestFlags of a kind
 abbrev pub flags_of : PostKind → ℕ
-flags_of ScsiIo = 0x00
-flags_of HighPriority = 0x06
-flags_of Default = 0x08
+flags_of ScsiIo = MPI2_REQ_DESCRIPT_FLAGS_SCSI_IO
+flags_of HighPriority = MPI2_REQ_DESCRIPT_FLAGS_HIGH_PRIORITY
+flags_of Default = MPI2_REQ_DESCRIPT_FLAGS_DEFAULT_TYPE
 
 -- the numbers of the fields in the layout's order
 unfoldable pub request_values : RequestDescriptor → List ℕ

@@ -3,11 +3,9 @@ ghost use Rattle.std.specs.Prelude.{◌≡◌, ◌≤◌, ◌<◌, ◌↔◌, []
 
 use crate::OutOfMemory;
 use circular_buffer::HeapCircularBuffer;
+use mpi_names::FREE_RING_ENTRIES;
 use std::alloc::Global;
 use std::marker::Model;
-
-/// How many entries a reply free ring has (mpi2_ioc.h, ReplyFreeQueueDepth).
-pub const FREE_RING_ENTRIES: usize = 80;
 
 /// The reply free ring: the reply frames that the controller may use, by their numbers. The host
 /// gives frames and the controller takes them, first in, first out. A contract sees the list of the
@@ -21,12 +19,14 @@ pub struct FreeRing {
 
 impl Model for FreeRing {
     ghost use Rattle.std.specs.Prelude.{◌≡◌, ◌≤◌, List, ℕ, length};
+    ghost use Rattle.mpi_names.specs.declared.memory.TheConstants.{FREE_RING_ENTRIES};
 
     ghost Value = { List ℕ };
 
     ghost view = { λ r. r.frames.items };
 
-    ghost invariant = { λ r. (r.frames.capacity ≡ 80) × (length r.frames.items ≤ 80) };
+    ghost invariant = { λ r. (r.frames.capacity ≡ FREE_RING_ENTRIES)
+        × (length r.frames.items ≤ FREE_RING_ENTRIES) };
 }
 
 impl FreeRing {

@@ -9,8 +9,8 @@ mod request_descriptor;
 #[cfg(test)]
 mod tests;
 
-pub use free_ring::{FREE_RING_ENTRIES, FreeRing};
-pub use post_ring::{POST_RING_ENTRIES, PostRing, UNUSED_ENTRY};
+pub use free_ring::FreeRing;
+pub use post_ring::PostRing;
 pub use reply_descriptor::{ReplyDescriptor, read_reply, write_reply};
 pub use request_descriptor::{PostKind, RequestDescriptor, read_post, write_post};
 

@@ -3,15 +3,9 @@ ghost use Rattle.std.specs.Prelude.{◌≡◌, ◌≢◌, ◌≤◌, ◌<◌, �
 ghost use Rattle.mpi_rings.specs.PostRing.{all_unused, with_first_read, with_posted};
 
 use crate::OutOfMemory;
+use mpi_names::{POST_RING_ENTRIES, UNUSED_ENTRY};
 use std::alloc::Global;
 use std::marker::Model;
-
-/// How many entries a reply post ring has (mpi2_ioc.h, ReplyDescriptorPostQueueDepth).
-pub const POST_RING_ENTRIES: usize = 352;
-
-/// An unused entry of a reply post ring: all ones (mpi2.h, MPI2_RPY_DESCRIPT_UNUSED_WORD0_MARK and
-/// MPI2_RPY_DESCRIPT_UNUSED_WORD1_MARK).
-pub const UNUSED_ENTRY: u64 = 0xffff_ffff_ffff_ffff;
 
 /// The reply post ring: 352 entries of 64 bits, into which the controller posts reply descriptors
 /// and from which the host reads them. A contract sees the list of the descriptors that wait, the
@@ -42,15 +36,15 @@ impl Model for PostRing {
 
 // The index after an index.
 fn after(index: u16) -> u16
-    requires { index < 352 }
-    ensures { result ≡ (index + 1) % 352 }
+    requires { index < POST_RING_ENTRIES }
+    ensures { result ≡ (index + 1) % POST_RING_ENTRIES }
 {
     (index + 1) % POST_RING_ENTRIES as u16
 }
 
 // The entries of a new ring, or OutOfMemory.
 fn unused_entries(alloc: Global) -> Result<Vec<u64>, OutOfMemory>
-    ensures { IfOk result (λ entries. entries.items ≡ replicate 352 UNUSED_ENTRY) }
+    ensures { IfOk result (λ entries. entries.items ≡ replicate POST_RING_ENTRIES UNUSED_ENTRY) }
 {
     vec![in alloc; UNUSED_ENTRY; POST_RING_ENTRIES]
 }

@@ -5,6 +5,10 @@ ghost use Rattle.mpi_rings.specs.RequestDescriptor.{RequestStands, flags_of, req
 
 use crate::descriptor::bytes_of;
 use mpi_layout::{Fault, Layout, Row, Rule, low, number, one_of, read};
+use mpi_names::{
+    MPI2_REQ_DESCRIPT_FLAGS_DEFAULT_TYPE, MPI2_REQ_DESCRIPT_FLAGS_HIGH_PRIORITY,
+    MPI2_REQ_DESCRIPT_FLAGS_SCSI_IO,
+};
 
 // mpi2.h, MPI2_SCSI_IO_REQUEST_DESCRIPTOR, MPI2_HIGH_PRIORITY_REQUEST_DESCRIPTOR and
 // MPI2_DEFAULT_REQUEST_DESCRIPTOR.
@@ -33,9 +37,9 @@ impl PostKind {
         ensures { result ≡ flags_of self }
     {
         match self {
-            PostKind::ScsiIo => 0x00,
-            PostKind::HighPriority => 0x06,
-            PostKind::Default => 0x08,
+            PostKind::ScsiIo => MPI2_REQ_DESCRIPT_FLAGS_SCSI_IO,
+            PostKind::HighPriority => MPI2_REQ_DESCRIPT_FLAGS_HIGH_PRIORITY,
+            PostKind::Default => MPI2_REQ_DESCRIPT_FLAGS_DEFAULT_TYPE,
         }
     }
 
@@ -45,8 +49,8 @@ impl PostKind {
         ensures { flags_of result ≡ flags }
     {
         match flags {
-            0x00 => PostKind::ScsiIo,
-            0x06 => PostKind::HighPriority,
+            MPI2_REQ_DESCRIPT_FLAGS_SCSI_IO => PostKind::ScsiIo,
+            MPI2_REQ_DESCRIPT_FLAGS_HIGH_PRIORITY => PostKind::HighPriority,
             _ => PostKind::Default,
         }
     }

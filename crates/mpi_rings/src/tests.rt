@@ -1,9 +1,10 @@
 //! Worked descriptors, and rings filled and emptied.
 use crate::{
-    FreeRing, PostKind, PostRing, ReplyDescriptor, RequestDescriptor, UNUSED_ENTRY, read_post,
-    read_reply, write_post, write_reply,
+    FreeRing, PostKind, PostRing, ReplyDescriptor, RequestDescriptor, read_post, read_reply,
+    write_post, write_reply,
 };
 use mpi_layout::Fault;
+use mpi_names::UNUSED_ENTRY;
 use std::test::Fail;
 
 // A request descriptor with all other fields 0.

@@ -1,14 +1,13 @@
 -- An answer to the whole input is due.
-use Rattle.std.proofs.Common.{◌≡◌, ℕ, List, Option, Some, None, inl, inr, subst, sym}
-use Rattle.mpt_cli.specs.declared.command.Command.{Command}
+use Rattle.std.proofs.Common.{ℕ, List, Option, Some, None, inr}
 use Rattle.mpt_cli.specs.declared.command.Command.TheVariants.{Decode}
 use Rattle.mpt_cli.specs.declared.command.Decoded.{Decoded}
 use Rattle.mpt_cli.specs.declared.command.Decoded.TheVariants as decoded
 use Rattle.mpt_cli.specs.declared.status.Status.{Status}
 use Rattle.mpt_cli.specs.declared.status.Status.TheVariants as status
-use Rattle.mpt_script.specs.Hexadecimal.{hexadecimal}
+use Rattle.mpt_text.specs.Hexadecimal.{hexadecimal}
 use Rattle.mpt_cli.specs.Answer.{IsAnswer, IsHexAnswer}
-use Rattle.mpt_cli.specs.Run.{IsDue, IsInput, Outside, RunsTo, Writes}
+use Rattle.mpt_cli.specs.Run.{IsDue, IsInput, Outside, RunsTo, TooManyLines, Writes}
 
 no_usage : (what : Decoded) (read : Option (List ℕ)) (text : List ℕ) → IsHexAnswer what read status.Usage text → ⊥
 no_usage what None text h = h
@@ -44,9 +43,9 @@ no_outofmemory decoded.Page0 (Some bytes) text h = h
 
 -- the answer's text is due with its status
 due_answer : (what : Decoded) (o : Outside) (input text : List ℕ) (ended : Status) → IsInput o input → IsAnswer what input ended text → IsDue (Some (Decode what)) o ended text
-due_answer what o input text status.Ok whole answer = (input, whole, answer)
-due_answer what o input text status.Refused whole answer = (input, whole, answer)
-due_answer what o input text status.TooLong whole answer = (input, whole.0, inr (whole, answer))
+due_answer what o input text status.Ok whole answer = record { input = input; whole = whole; said = answer }
+due_answer what o input text status.Refused whole answer = record { input = input; whole = whole; said = answer }
+due_answer what o input text status.TooLong whole answer = record { input = input; long = TooManyLines whole answer.0; said = answer.1 }
 due_answer what o input text status.Usage whole answer = absurd (no_usage what (hexadecimal input) text answer.1)
 due_answer what o input text status.ReadFault whole answer = absurd (no_readfault what (hexadecimal input) text answer.1)
 due_answer what o input text status.WriteFault whole answer = absurd (no_writefault what (hexadecimal input) text answer.1)
@@ -54,4 +53,5 @@ due_answer what o input text status.OutOfMemory whole answer = absurd (no_outofm
 
 -- a run that read its whole input and wrote the answer
 pub answered_run : (what : Decoded) (o : Outside) (input text : List ℕ) (due ended : Status) → IsInput o input → IsAnswer what input due text → Writes o.taken o.taken' o.write_faults o.write_faults' due text ended → RunsTo (Some (Decode what)) o ended
-answered_run what o input text due ended whole answer written = inr (due, text, due_answer what o input text due whole answer, written)
+answered_run what o input text due ended whole answer written =
+    inr (record { due = due; text = text; cause = due_answer what o input text due whole answer; writes = written })

@@ -1,6 +1,6 @@
 -- What is printed of an input that was read whole.
 use Rattle.std.specs.Prelude.{◌≡◌, ℕ, ◌<◌, ◌≤◌, List, ◌++◌, codes, Option, Some, None}
-use Rattle.mpt_script.specs.Hexadecimal.{hexadecimal}
+use Rattle.mpt_text.specs.Hexadecimal.{hexadecimal}
 use Rattle.mpi_layout.specs.Rows.{Shape, first_fault}
 use Rattle.mpi_layout.specs.declared.fault.Fault.{Fault}
 use Rattle.mpi_rings.specs.declared.reply_descriptor.ReplyDescriptor.{ReplyDescriptor}
@@ -16,41 +16,53 @@ use Rattle.mpt_messages.specs.Message.{MessageStands, message_listing, reply_fun
 use Rattle.mpt_messages.specs.Refusal.{IsOfKind, reply_refusal, request_refusal}
 use Rattle.mpt_messages.specs.RefusalListing.{reply_refusal_text, request_refusal_text}
 use Rattle.mpt_messages.specs.Listing.{fault_text, line_end}
+use Rattle.mpt_cli.specs.declared.answer.TheConstants.{MOST_LINES}
 use Rattle.mpt_cli.specs.declared.command.Decoded.{Decoded}
 use Rattle.mpt_cli.specs.declared.command.Decoded.TheVariants as decoded
 use Rattle.mpt_cli.specs.declared.status.Status.{Status}
 use Rattle.mpt_cli.specs.declared.status.Status.TheVariants as status
-use Rattle.mpt_cli.specs.Descriptors.{page_listing, reply_descriptor_listing, request_descriptor_listing}
+use Rattle.mpt_messages.specs.DescriptorListing.{page_listing, reply_descriptor_listing, request_descriptor_listing}
 use Rattle.mpt_cli.specs.Input.{line_count}
 
--- the answer to bytes as a request of this kind: the listing of the request that they stand for, or the line of their first refusal
+-- the answer to bytes as a request of this kind: the listing of the request that they stand for, or the line of
+-- their first refusal
 abbrev pub IsRequestAnswer : Kind → List ℕ → Status → List ℕ → Type 0
-IsRequestAnswer kind bytes status.Ok text = (m : Message) × IsOfKind kind m × MessageStands m bytes × (text ≡ message_listing m)
-IsRequestAnswer kind bytes status.Refused text = (fault : MsgFault) × (request_refusal kind bytes ≡ Some fault) × (text ≡ request_refusal_text bytes fault)
+IsRequestAnswer kind bytes status.Ok text =
+    (m : Message) × IsOfKind kind m × MessageStands m bytes × (text ≡ message_listing m)
+IsRequestAnswer kind bytes status.Refused text =
+    (fault : MsgFault) × (request_refusal kind bytes ≡ Some fault) × (text ≡ request_refusal_text bytes fault)
 IsRequestAnswer kind bytes _ text = ⊥
 
 -- as a reply
 abbrev pub IsReplyAnswer : List ℕ → Status → List ℕ → Type 0
-IsReplyAnswer bytes status.Ok text = (m : Message) × (reply_function m ≡ None → ⊥) × MessageStands m bytes × (text ≡ message_listing m)
-IsReplyAnswer bytes status.Refused text = (fault : MsgFault) × (reply_refusal bytes ≡ Some fault) × (text ≡ reply_refusal_text bytes fault)
+IsReplyAnswer bytes status.Ok text =
+    (m : Message) × (reply_function m ≡ None → ⊥) × MessageStands m bytes × (text ≡ message_listing m)
+IsReplyAnswer bytes status.Refused text =
+    (fault : MsgFault) × (reply_refusal bytes ≡ Some fault) × (text ≡ reply_refusal_text bytes fault)
 IsReplyAnswer bytes _ text = ⊥
 
 -- as a request descriptor
 abbrev pub IsPostAnswer : List ℕ → Status → List ℕ → Type 0
-IsPostAnswer bytes status.Ok text = (d : RequestDescriptor) × RequestStands d bytes × (text ≡ request_descriptor_listing d)
-IsPostAnswer bytes status.Refused text = (fault : Fault) × (first_fault request_layout bytes ≡ Some fault) × (text ≡ fault_text (request_layout).rows fault)
+IsPostAnswer bytes status.Ok text =
+    (d : RequestDescriptor) × RequestStands d bytes × (text ≡ request_descriptor_listing d)
+IsPostAnswer bytes status.Refused text =
+    (fault : Fault) × (first_fault request_layout bytes ≡ Some fault) × (text ≡ fault_text (request_layout).rows fault)
 IsPostAnswer bytes _ text = ⊥
 
 -- as a reply descriptor
 abbrev pub IsReplyDescriptorAnswer : List ℕ → Status → List ℕ → Type 0
-IsReplyDescriptorAnswer bytes status.Ok text = (d : ReplyDescriptor) × ReplyStands d bytes × (text ≡ reply_descriptor_listing d)
-IsReplyDescriptorAnswer bytes status.Refused text = (fault : Fault) × (first_fault reply_layout bytes ≡ Some fault) × (text ≡ fault_text (success_layout).rows fault)
+IsReplyDescriptorAnswer bytes status.Ok text =
+    (d : ReplyDescriptor) × ReplyStands d bytes × (text ≡ reply_descriptor_listing d)
+IsReplyDescriptorAnswer bytes status.Refused text =
+    (fault : Fault) × (first_fault reply_layout bytes ≡ Some fault) × (text ≡ fault_text (success_layout).rows fault)
 IsReplyDescriptorAnswer bytes _ text = ⊥
 
 -- as a SAS Device Page 0
 abbrev pub IsPageAnswer : List ℕ → Status → List ℕ → Type 0
 IsPageAnswer bytes status.Ok text = (page : DevicePage0) × DevicePage0Stands page bytes × (text ≡ page_listing page)
-IsPageAnswer bytes status.Refused text = (fault : Fault) × (first_fault device_page0_layout bytes ≡ Some fault) × (text ≡ fault_text (device_page0_layout).rows fault)
+IsPageAnswer bytes status.Refused text =
+    (fault : Fault) × (first_fault device_page0_layout bytes ≡ Some fault)
+    × (text ≡ fault_text (device_page0_layout).rows fault)
 IsPageAnswer bytes _ text = ⊥
 
 -- the answer to bytes
@@ -67,7 +79,11 @@ IsHexAnswer what None status.Refused text = text ≡ codes "refused line 1 hex" 
 IsHexAnswer what None _ text = ⊥
 IsHexAnswer what (Some bytes) ended text = IsBytesAnswer what bytes ended text
 
+-- the line of an input that is too long
+abbrev pub too_long_text : List ℕ
+too_long_text = codes "too long" ++ line_end
+
 -- the answer to the whole input of `decode`
 abbrev pub IsAnswer : Decoded → List ℕ → Status → List ℕ → Type 0
-IsAnswer what input status.TooLong text = (20000 < line_count input) × (text ≡ codes "too long" ++ line_end)
-IsAnswer what input ended text = (line_count input ≤ 20000) × IsHexAnswer what (hexadecimal input) ended text
+IsAnswer what input status.TooLong text = (MOST_LINES < line_count input) × (text ≡ too_long_text)
+IsAnswer what input ended text = (line_count input ≤ MOST_LINES) × IsHexAnswer what (hexadecimal input) ended text

@@ -6,8 +6,7 @@ use crate::command::Decoded;
 use crate::decode::answer_to_bytes;
 use crate::input::count_lines;
 use crate::status::Status;
-use mpt_script::{ScriptFault, read_hex};
-use mpt_text::{OutOfMemory, Text};
+use mpt_text::{HexFault, OutOfMemory, Text, parse_hex};
 use std::alloc::Global;
 
 /// The most lines that an input may have.
@@ -40,11 +39,9 @@ pub fn answer_to(alloc: Global, decoded: Decoded, input: &[u8]) -> Result<Answer
     if count_lines(input) > MOST_LINES {
         return Answer::with_line(alloc, Status::TooLong, b"too long\n");
     }
-    match read_hex(alloc, input) {
+    match parse_hex(alloc, input) {
         Ok(bytes) => answer_to_bytes(alloc, decoded, &bytes),
-        Err(ScriptFault::At { .. }) => {
-            Answer::with_line(alloc, Status::Refused, b"refused line 1 hex\n")
-        }
-        Err(ScriptFault::OutOfMemory) => Err(OutOfMemory),
+        Err(HexFault::Form) => Answer::with_line(alloc, Status::Refused, b"refused line 1 hex\n"),
+        Err(HexFault::OutOfMemory) => Err(OutOfMemory),
     }
 }

@@ -1,5 +1,5 @@
 //! The words of the command line.
-ghost use Rattle.std.specs.Prelude.{◌≡◌, map, string_bytes};
+ghost use Rattle.std.specs.Prelude.{◌≡◌, drop, map, string_bytes};
 ghost use Rattle.mpt_cli.specs.Command.{command_of, decoded_of};
 
 use mpt_lines::word_number;
@@ -62,5 +62,15 @@ impl Command {
             }
             _ => None,
         }
+    }
+}
+
+/// The words after the program's name, which is the first argument. No argument, no words.
+pub fn words_of(arguments: &[String]) -> &[String]
+    ensures { result.now ≡ drop 1 arguments.now }
+{
+    match arguments {
+        [] => arguments,
+        [_, words @ ..] => words,
     }
 }

@@ -1,8 +1,6 @@
 //! The listing of what bytes stand for, or the line of their refusal.
-ghost use Rattle.std.specs.Prelude.{◌≡◌, ◌++◌, IfOk, OnOk};
-ghost use Rattle.mpi_rings.specs.ReplyDescriptor.{HasItsFlags};
+ghost use Rattle.std.specs.Prelude.{◌≡◌, IfOk};
 ghost use Rattle.mpt_cli.specs.Answer.{IsBytesAnswer, IsPageAnswer, IsPostAnswer, IsReplyAnswer, IsReplyDescriptorAnswer, IsRequestAnswer};
-ghost use Rattle.mpt_cli.specs.Descriptors.{reply_descriptor_listing};
 ghost use Rattle.mpt_cli.specs.declared.status.Status.TheVariants as status;
 
 use crate::answer::Answer;
@@ -11,13 +9,11 @@ use crate::status::Status;
 use config_pages::{DevicePage0, decode_device_page0};
 use mpi_rings::{ReplyDescriptor, RequestDescriptor, read_post, read_reply};
 use mpt_messages::{
-    Kind, decode_reply, decode_request, list_text, push_fault, push_listing, push_reply_refusal,
-    push_request_refusal,
+    Kind, decode_reply, decode_request, list_page, list_reply_descriptor, list_request_descriptor,
+    list_text, push_fault, push_reply_refusal, push_request_refusal,
 };
 use mpt_text::{OutOfMemory, Text};
 use std::alloc::Global;
-
-const REPLY_DESCRIPTOR: &[u8] = b"reply-descriptor";
 
 /// The answer to bytes: the listing of what they stand for, or the line of their first refusal.
 pub fn answer_to_bytes(alloc: Global, decoded: Decoded, bytes: &[u8]) -> Result<Answer, OutOfMemory>
@@ -61,18 +57,10 @@ fn answer_to_reply(alloc: Global, bytes: &[u8]) -> Result<Answer, OutOfMemory>
 fn answer_to_post(alloc: Global, bytes: &[u8]) -> Result<Answer, OutOfMemory>
     ensures { IfOk result (λ a. IsPostAnswer bytes.now a.status a.text) }
 {
-    let mut text = Text::new(alloc);
     match read_post(bytes) {
-        Ok(d) => {
-            push_listing(
-                &mut text,
-                b"request-descriptor",
-                &RequestDescriptor::layout(),
-                &d.values(),
-            )?;
-            Ok(listed(text))
-        }
+        Ok(d) => Ok(listed(list_request_descriptor(alloc, &d)?)),
         Err(fault) => {
+            let mut text = Text::new(alloc);
             push_fault(&mut text, &RequestDescriptor::layout(), fault)?;
             Ok(refused(text))
         }
@@ -82,13 +70,10 @@ fn answer_to_post(alloc: Global, bytes: &[u8]) -> Result<Answer, OutOfMemory>
 fn answer_to_reply_descriptor(alloc: Global, bytes: &[u8]) -> Result<Answer, OutOfMemory>
     ensures { IfOk result (λ a. IsReplyDescriptorAnswer bytes.now a.status a.text) }
 {
-    let mut text = Text::new(alloc);
     match read_reply(bytes) {
-        Ok(d) => {
-            push_reply_descriptor(&mut text, &d)?;
-            Ok(listed(text))
-        }
+        Ok(d) => Ok(listed(list_reply_descriptor(alloc, &d)?)),
         Err(fault) => {
+            let mut text = Text::new(alloc);
             push_fault(&mut text, &ReplyDescriptor::success_layout(), fault)?;
             Ok(refused(text))
         }
@@ -98,61 +83,13 @@ fn answer_to_reply_descriptor(alloc: Global, bytes: &[u8]) -> Result<Answer, Out
 fn answer_to_page(alloc: Global, bytes: &[u8]) -> Result<Answer, OutOfMemory>
     ensures { IfOk result (λ a. IsPageAnswer bytes.now a.status a.text) }
 {
-    let mut text = Text::new(alloc);
     match decode_device_page0(bytes) {
-        Ok(page) => {
-            push_listing(
-                &mut text,
-                b"sas-device-page-0",
-                &DevicePage0::layout(),
-                &page.values(),
-            )?;
-            Ok(listed(text))
-        }
+        Ok(page) => Ok(listed(list_page(alloc, &page)?)),
         Err(fault) => {
+            let mut text = Text::new(alloc);
             push_fault(&mut text, &DevicePage0::layout(), fault)?;
             Ok(refused(text))
         }
-    }
-}
-
-fn push_reply_descriptor(text: &mut Text, d: &ReplyDescriptor) -> Result<(), OutOfMemory>
-    requires { HasItsFlags d.now }
-    ensures { OnOk result (text.new ≡ text.old ++ reply_descriptor_listing d.now) }
-{
-    match *d {
-        ReplyDescriptor::Success {
-            msix,
-            smid,
-            tag,
-            rest,
-        } => push_listing(
-            text,
-            REPLY_DESCRIPTOR,
-            &ReplyDescriptor::success_layout(),
-            &ReplyDescriptor::success_values(msix, smid, tag, rest),
-        ),
-        ReplyDescriptor::Address {
-            msix,
-            smid,
-            address,
-        } => push_listing(
-            text,
-            REPLY_DESCRIPTOR,
-            &ReplyDescriptor::address_layout(),
-            &ReplyDescriptor::address_values(msix, smid, address),
-        ),
-        ReplyDescriptor::Unused {
-            flags,
-            msix,
-            smid,
-            rest,
-        } => push_listing(
-            text,
-            REPLY_DESCRIPTOR,
-            &ReplyDescriptor::unused_layout(),
-            &ReplyDescriptor::unused_values(flags, msix, smid, rest),
-        ),
     }
 }
 

@@ -10,6 +10,7 @@ mod status;
 #[cfg(test)]
 mod tests;
 
+use command::words_of;
 pub use command::{Command, Decoded};
 use mpt_outside::{StdSink, StdSource};
 use mpt_text::OutOfMemory;
@@ -19,19 +20,19 @@ use std::process::ExitCode;
 use std::{env, io};
 
 fn main(rt: HostRuntime) -> ExitCode {
-    let Ok(words) = command_words(&rt) else {
+    let Ok(arguments) = arguments(&rt) else {
         return ExitCode::from(Status::OutOfMemory.number());
     };
     let mut source = StdSource::new(rt.reader());
     let mut sink = StdSink::new(io::writer(&rt));
-    let status = run(rt.alloc(), &words, &mut source, &mut sink);
+    let status = run(rt.alloc(), words_of(&arguments), &mut source, &mut sink);
     ExitCode::from(status.number())
 }
 
-// The words after the program's name. Where one isn't UTF-8 there are none, which no command has.
-fn command_words(rt: &HostRuntime) -> Result<Vec<String>, OutOfMemory> {
+// The arguments. Where one isn't UTF-8 there are none, which no command has.
+fn arguments(rt: &HostRuntime) -> Result<Vec<String>, OutOfMemory> {
     match env::args(rt) {
-        Ok(words) => words.skip(1).collect(rt.alloc()),
+        Ok(arguments) => arguments.collect(rt.alloc()),
         Err(error) if error.kind() == io::ErrorKind::OutOfMemory => Err(OutOfMemory),
         Err(_) => Ok(Vec::new(rt.alloc())),
     }

@@ -3,7 +3,7 @@ ghost use Rattle.std.specs.Prelude.{◌≡◌, map, string_bytes, IfOk, Some};
 ghost use Rattle.mpt_script.specs.Generator.{generated};
 ghost use Rattle.mpt_script.specs.Printed.{schedule_text};
 ghost use Rattle.mpt_cli.specs.Command.{command_of};
-ghost use Rattle.mpt_cli.specs.Run.{Generates, RunsTo, Writes};
+ghost use Rattle.mpt_cli.specs.Run.{Generates, RunsTo, Writes, seen_between};
 
 use crate::answer::answer_to;
 use crate::command::{Command, Decoded};
@@ -26,18 +26,8 @@ pub fn run<S: Source, K: Sink>(
     source: &mut S,
     sink: &mut K,
 ) -> Status
-    ensures { RunsTo (command_of (map string_bytes words.now)) (record {
-      left = S.left source.old;
-      left' = S.left source.new;
-      given = S.given source.old;
-      given' = S.given source.new;
-      read_faults = S.faults source.old;
-      read_faults' = S.faults source.new;
-      taken = K.taken sink.old;
-      taken' = K.taken sink.new;
-      write_faults = K.faults sink.old;
-      write_faults' = K.faults sink.new;
-    }) result }
+    ensures { RunsTo (command_of (map string_bytes words.now))
+        (seen_between S.left S.given S.faults K.taken K.faults source.old source.new sink.old sink.new) result }
 {
     match Command::from_words(words) {
         None => finish(sink, Status::Usage, USAGE),
@@ -53,18 +43,8 @@ fn run_decode<S: Source, K: Sink>(
     source: &mut S,
     sink: &mut K,
 ) -> Status
-    ensures { RunsTo (Some (Command.Decode decoded)) (record {
-      left = S.left source.old;
-      left' = S.left source.new;
-      given = S.given source.old;
-      given' = S.given source.new;
-      read_faults = S.faults source.old;
-      read_faults' = S.faults source.new;
-      taken = K.taken sink.old;
-      taken' = K.taken sink.new;
-      write_faults = K.faults sink.old;
-      write_faults' = K.faults sink.new;
-    }) result }
+    ensures { RunsTo (Some (Command.Decode decoded))
+        (seen_between S.left S.given S.faults K.taken K.faults source.old source.new sink.old sink.new) result }
 {
     let input = match read_all(alloc, source, MOST_BYTES) {
         Ok(input) => input,

@@ -1,11 +1,10 @@
 -- The commands of a `submit` line, by their words.
-use Rattle.std.specs.Prelude.{ℕ, List, [], ◌∷◌, Result, Ok, Err, bytes_eq, codes, if◌then◌else◌}
+use Rattle.std.specs.Prelude.{ℕ, List, [], ◌∷◌, Result, Ok, codes}
 use Rattle.mpt_trace.specs.declared.command_form.CommandForm.{CommandForm}
 use Rattle.mpt_trace.specs.declared.command_form.CommandForm.TheVariants.{Tur, Inquiry, Capacity, Read, Write, Read16, Write16, Raw}
 use Rattle.mpt_lines.specs.declared.fault.Cause.{Cause}
-use Rattle.mpt_lines.specs.declared.fault.Cause.TheVariants.{Form}
 use Rattle.mpt_lines.specs.Numbers.{◌>>=◌, number, within, byte, cdb, checked_bytes}
-use Rattle.mpt_lines.specs.Words.{nothing, one, two, three}
+use Rattle.mpt_lines.specs.Words.{Keyword, keyword, nothing, one, read_by, two, three}
 
 -- `tur`
 abbrev pub tur : List (List ℕ) → Result CommandForm Cause
@@ -27,47 +26,50 @@ capacity words = do
   none ← nothing words
   Ok Capacity
 
--- `read <lba> <blocks>`
-abbrev pub read : List (List ℕ) → Result CommandForm Cause
-read words = do
+-- `<lba> <blocks>`: the first block, at most this, and how many
+abbrev pub extent : ℕ → List (List ℕ) → Result (ℕ × ℕ) Cause
+extent most words = do
   w ← two words
   first ← number w.0
   count ← number w.1
-  lba ← within 0 4294967295 first
+  lba ← within 0 most first
   blocks ← within 0 65535 count
-  Ok (Read lba blocks)
+  Ok (lba, blocks)
+
+-- `<lba> <blocks> <hh>`: with the byte that is written to each
+abbrev pub filled_extent : ℕ → List (List ℕ) → Result (ℕ × ℕ × ℕ) Cause
+filled_extent most words = do
+  w ← three words
+  first ← number w.0
+  count ← number w.1
+  fill ← byte w.2
+  lba ← within 0 most first
+  blocks ← within 0 65535 count
+  Ok (lba, blocks, fill)
+
+-- `read <lba> <blocks>`
+abbrev pub read : List (List ℕ) → Result CommandForm Cause
+read words = do
+  e ← extent 4294967295 words
+  Ok (Read e.0 e.1)
 
 -- `write <lba> <blocks> <hh>`
 abbrev pub write : List (List ℕ) → Result CommandForm Cause
 write words = do
-  w ← three words
-  first ← number w.0
-  count ← number w.1
-  fill ← byte w.2
-  lba ← within 0 4294967295 first
-  blocks ← within 0 65535 count
-  Ok (Write lba blocks fill)
+  e ← filled_extent 4294967295 words
+  Ok (Write e.0 e.1 e.2)
 
 -- `read16 <lba> <blocks>`
 abbrev pub read16 : List (List ℕ) → Result CommandForm Cause
 read16 words = do
-  w ← two words
-  first ← number w.0
-  count ← number w.1
-  lba ← within 0 18446744073709551615 first
-  blocks ← within 0 65535 count
-  Ok (Read16 lba blocks)
+  e ← extent 18446744073709551615 words
+  Ok (Read16 e.0 e.1)
 
 -- `write16 <lba> <blocks> <hh>`
 abbrev pub write16 : List (List ℕ) → Result CommandForm Cause
 write16 words = do
-  w ← three words
-  first ← number w.0
-  count ← number w.1
-  fill ← byte w.2
-  lba ← within 0 18446744073709551615 first
-  blocks ← within 0 65535 count
-  Ok (Write16 lba blocks fill)
+  e ← filled_extent 18446744073709551615 words
+  Ok (Write16 e.0 e.1 e.2)
 
 -- `raw <hex> <len>`
 abbrev pub raw : List (List ℕ) → Result CommandForm Cause
@@ -79,16 +81,19 @@ raw words = do
   len ← within 0 4294967295 length
   Ok (Raw block len)
 
+-- the commands by their names
+abbrev pub commands : List (Keyword CommandForm)
+commands =
+    keyword (codes "tur") tur
+    ∷ keyword (codes "inquiry") inquiry
+    ∷ keyword (codes "capacity") capacity
+    ∷ keyword (codes "read") read
+    ∷ keyword (codes "write") write
+    ∷ keyword (codes "read16") read16
+    ∷ keyword (codes "write16") write16
+    ∷ keyword (codes "raw") raw
+    ∷ []
+
 -- a command by its first word and the words after it
 abbrev pub command : List (List ℕ) → Result CommandForm Cause
-command [] = Err Form
-command (word ∷ others) =
-    if bytes_eq word (codes "tur") then tur others
-    else if bytes_eq word (codes "inquiry") then inquiry others
-    else if bytes_eq word (codes "capacity") then capacity others
-    else if bytes_eq word (codes "read") then read others
-    else if bytes_eq word (codes "write") then write others
-    else if bytes_eq word (codes "read16") then read16 others
-    else if bytes_eq word (codes "write16") then write16 others
-    else if bytes_eq word (codes "raw") then raw others
-    else Err Form
+command words = read_by commands words

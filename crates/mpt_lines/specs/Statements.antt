@@ -1,5 +1,5 @@
 -- The forms of a line, with the ranges of their numbers.
-use Rattle.std.specs.Prelude.{ℕ, List, [], ◌∷◌, Result, Ok, Err, bytes_eq, codes, if◌then◌else◌}
+use Rattle.std.specs.Prelude.{ℕ, List, [], ◌∷◌, ◌++◌, map, Result, Ok, Err, codes}
 use Rattle.mpt_trace.specs.declared.choice.Choice.{Choice}
 use Rattle.mpt_trace.specs.declared.choice.Choice.TheVariants as choice
 use Rattle.mpt_trace.specs.declared.input.Input.TheVariants as input
@@ -10,7 +10,7 @@ use Rattle.mpt_lines.specs.declared.statement.Statement.TheVariants as statement
 use Rattle.mpt_lines.specs.declared.statement.PlanStatement.{PlanStatement}
 use Rattle.mpt_lines.specs.declared.statement.PlanStatement.TheVariants as plan
 use Rattle.mpt_lines.specs.Numbers.{◌>>=◌, number, within, address}
-use Rattle.mpt_lines.specs.Words.{nothing, one, two, three}
+use Rattle.mpt_lines.specs.Words.{Keyword, keyword, nothing, one, read_by, two, three}
 use Rattle.mpt_lines.specs.Commands.{command}
 
 -- `queues <q>`
@@ -148,52 +148,47 @@ host_take_on words = do
   q ← on_queue words
   Ok (statement.Choice (choice.HostTakeOn q.0) q.1)
 
--- the choices that have an optional count alone
-abbrev pub plain_choice : List ℕ → List (List ℕ) → Result Statement Cause
-plain_choice word others =
-    if bytes_eq word (codes "host-put") then counted choice.HostPut others
-    else if bytes_eq word (codes "host-take") then counted choice.HostTake others
-    else if bytes_eq word (codes "ioc-take") then counted choice.IocTake others
-    else if bytes_eq word (codes "ioc-high") then counted choice.IocHigh others
-    else if bytes_eq word (codes "ioc-normal") then counted choice.IocNormal others
-    else if bytes_eq word (codes "ioc-out") then counted choice.IocOut others
-    else if bytes_eq word (codes "ioc-back") then counted choice.IocBack others
-    else if bytes_eq word (codes "ioc-put") then counted choice.IocPut others
-    else if bytes_eq word (codes "fabric-take") then counted choice.FabricTake others
-    else if bytes_eq word (codes "fabric-say") then counted choice.FabricSay others
-    else if bytes_eq word (codes "fabric-put") then counted choice.FabricPut others
-    else Err Form
+-- ---- keywords
 
--- the choices
-abbrev pub choice_line : List ℕ → List (List ℕ) → Result Statement Cause
-choice_line word others =
-    if bytes_eq word (codes "fabric-run") then fabric_run others
-    else if bytes_eq word (codes "ioc-put-on") then ioc_put_on others
-    else if bytes_eq word (codes "host-take-on") then host_take_on others
-    else plain_choice word others
+-- the lines that a plan has too
+abbrev pub shared_words : List (Keyword Statement)
+shared_words =
+    keyword (codes "queues") queues
+    ∷ keyword (codes "disk") disk
+    ∷ keyword (codes "expander") expander
+    ∷ keyword (codes "plug") plug
+    ∷ keyword (codes "unplug") unplug
+    ∷ keyword (codes "reset") reset
+    ∷ keyword (codes "treset") treset
+    ∷ keyword (codes "submit") submit
+    ∷ keyword (codes "abort") abort
+    ∷ []
 
--- what the host is told, and the choices
-abbrev pub step_line : List ℕ → List (List ℕ) → Result Statement Cause
-step_line word others =
-    if bytes_eq word (codes "start") then start others
-    else if bytes_eq word (codes "reset") then reset others
-    else if bytes_eq word (codes "unit") then unit others
-    else if bytes_eq word (codes "treset") then treset others
-    else if bytes_eq word (codes "submit") then submit others
-    else if bytes_eq word (codes "abort") then abort others
-    else choice_line word others
+-- the lines that are a schedule's alone
+abbrev pub schedule_words : List (Keyword Statement)
+schedule_words =
+    keyword (codes "start") start
+    ∷ keyword (codes "unit") unit
+    ∷ keyword (codes "drain") drain
+    ∷ keyword (codes "host-put") (counted choice.HostPut)
+    ∷ keyword (codes "host-take") (counted choice.HostTake)
+    ∷ keyword (codes "host-take-on") host_take_on
+    ∷ keyword (codes "ioc-take") (counted choice.IocTake)
+    ∷ keyword (codes "ioc-high") (counted choice.IocHigh)
+    ∷ keyword (codes "ioc-normal") (counted choice.IocNormal)
+    ∷ keyword (codes "ioc-out") (counted choice.IocOut)
+    ∷ keyword (codes "ioc-back") (counted choice.IocBack)
+    ∷ keyword (codes "ioc-put") (counted choice.IocPut)
+    ∷ keyword (codes "ioc-put-on") ioc_put_on
+    ∷ keyword (codes "fabric-take") (counted choice.FabricTake)
+    ∷ keyword (codes "fabric-run") fabric_run
+    ∷ keyword (codes "fabric-say") (counted choice.FabricSay)
+    ∷ keyword (codes "fabric-put") (counted choice.FabricPut)
+    ∷ []
 
 -- a line of a schedule by its words
 abbrev pub schedule_line : List (List ℕ) → Result Statement Cause
-schedule_line [] = Err Form
-schedule_line (word ∷ others) =
-    if bytes_eq word (codes "queues") then queues others
-    else if bytes_eq word (codes "disk") then disk others
-    else if bytes_eq word (codes "expander") then expander others
-    else if bytes_eq word (codes "plug") then plug others
-    else if bytes_eq word (codes "unplug") then unplug others
-    else if bytes_eq word (codes "drain") then drain others
-    else step_line word others
+schedule_line words = read_by (schedule_words ++ shared_words) words
 
 -- `submitter <i>`
 abbrev pub submitter : List (List ℕ) → Result PlanStatement Cause
@@ -208,24 +203,14 @@ fabric words = do
   none ← nothing words
   Ok plan.Fabric
 
--- the lines of a plan that a schedule has too
-abbrev pub shared_line : List ℕ → List (List ℕ) → Result Statement Cause
-shared_line word others =
-    if bytes_eq word (codes "queues") then queues others
-    else if bytes_eq word (codes "disk") then disk others
-    else if bytes_eq word (codes "expander") then expander others
-    else if bytes_eq word (codes "plug") then plug others
-    else if bytes_eq word (codes "unplug") then unplug others
-    else if bytes_eq word (codes "reset") then reset others
-    else if bytes_eq word (codes "treset") then treset others
-    else if bytes_eq word (codes "submit") then submit others
-    else if bytes_eq word (codes "abort") then abort others
-    else Err Form
+-- a shared line says in a plan what it says in a schedule
+abbrev pub in_a_plan : Keyword Statement → Keyword PlanStatement
+in_a_plan k = keyword k.word (λ words. k.reads words >>= (λ said. Ok (plan.Line said)))
+
+-- the lines that are a plan's alone
+abbrev pub plan_words : List (Keyword PlanStatement)
+plan_words = keyword (codes "submitter") submitter ∷ keyword (codes "fabric") fabric ∷ []
 
 -- a line of a plan by its words
 abbrev pub plan_line : List (List ℕ) → Result PlanStatement Cause
-plan_line [] = Err Form
-plan_line (word ∷ others) =
-    if bytes_eq word (codes "submitter") then submitter others
-    else if bytes_eq word (codes "fabric") then fabric others
-    else (shared_line word others >>= (λ said. Ok (plan.Line said)))
+plan_line words = read_by (plan_words ++ map in_a_plan shared_words) words

@@ -1,7 +1,7 @@
 //! The pieces of a text between separators: the lines of a text, the words of a line.
-ghost use Rattle.std.specs.Prelude.{◌≡◌, bytes_eq, [], ◌∷◌, MatchOption, MatchResult, IfSome, ◌<◌, ◌==◌, length};
+ghost use Rattle.std.specs.Prelude.{◌≡◌, ℕ, List, IsTrue, bytes_eq, [], ◌∷◌, MatchOption, MatchResult, IfSome, ◌<◌, ◌==◌, length};
 ghost use Rattle.std.specs.List.{position_from};
-ghost use Rattle.mpt_lines.specs.Words.{nothing, one, pieces, three, two};
+ghost use Rattle.mpt_lines.specs.Words.{is_name, nothing, one, pieces, three, two};
 
 use crate::fault::Cause;
 use std::marker::Model;
@@ -111,9 +111,13 @@ fn place_of(separator: u8, text: &[u8]) -> Option<usize>
     text.iter().position(|byte| *byte == separator)
 }
 
-/// Whether a word is this one.
-pub(crate) fn is_word(word: &[u8], name: &[u8]) -> bool
-    ensures { result ≡ bytes_eq word.now name.now }
+/// A word as text. One that isn't UTF-8 is no keyword, and neither is the empty text that stands
+/// for it.
+pub(crate) fn text_of(word: &[u8]) -> &str
+    ensures { (name : List ℕ) → IsTrue (is_name name) → bytes_eq result.now name ≡ bytes_eq word.now name }
 {
-    word == name
+    match std::str::from_utf8(word) {
+        Ok(text) => text,
+        Err(_) => "",
+    }
 }

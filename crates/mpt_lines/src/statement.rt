@@ -1,11 +1,12 @@
 //! The forms of a line, with the ranges of their numbers.
-ghost use Rattle.std.specs.Prelude.{◌≡◌};
+ghost use Rattle.std.specs.Prelude.{◌≡◌, ◌∷◌};
+ghost use Rattle.mpt_lines.specs.Words.{read_by};
 ghost use Rattle.mpt_lines.specs.Statements as spec;
 
 use crate::command::command;
 use crate::fault::Cause;
 use crate::numbers::{address, number, within};
-use crate::pieces::{Pieces, is_word};
+use crate::pieces::{Pieces, text_of};
 use mpt_trace::{Address, Choice, DiskSpec, Input, Tag};
 
 /// What a line says, by itself. Numbers that name what earlier lines declared aren't judged yet.
@@ -67,103 +68,44 @@ pub fn schedule_line(mut words: Pieces) -> Result<Statement, Cause>
     let Some(word) = words.take() else {
         return Err(Cause::Form);
     };
-    if is_word(word, b"queues") {
-        return queues(words);
+    match text_of(word) {
+        "start" => start(words),
+        "unit" => unit(words),
+        "drain" => drain(words),
+        "host-put" => counted(Choice::HostPut, words),
+        "host-take" => counted(Choice::HostTake, words),
+        "host-take-on" => host_take_on(words),
+        "ioc-take" => counted(Choice::IocTake, words),
+        "ioc-high" => counted(Choice::IocHigh, words),
+        "ioc-normal" => counted(Choice::IocNormal, words),
+        "ioc-out" => counted(Choice::IocOut, words),
+        "ioc-back" => counted(Choice::IocBack, words),
+        "ioc-put" => counted(Choice::IocPut, words),
+        "ioc-put-on" => ioc_put_on(words),
+        "fabric-take" => counted(Choice::FabricTake, words),
+        "fabric-run" => fabric_run(words),
+        "fabric-say" => counted(Choice::FabricSay, words),
+        "fabric-put" => counted(Choice::FabricPut, words),
+        _ => shared_line(word, words),
     }
-    if is_word(word, b"disk") {
-        return disk(words);
-    }
-    if is_word(word, b"expander") {
-        return expander(words);
-    }
-    if is_word(word, b"plug") {
-        return plug(words);
-    }
-    if is_word(word, b"unplug") {
-        return unplug(words);
-    }
-    if is_word(word, b"drain") {
-        return drain(words);
-    }
-    step_line(word, words)
 }
 
-fn step_line(word: &[u8], words: Pieces) -> Result<Statement, Cause>
-    ensures { result ≡ spec.step_line word.now words.entry }
+// A line that schedules and plans have.
+fn shared_line(word: &[u8], words: Pieces) -> Result<Statement, Cause>
+    ensures { result ≡ read_by spec.shared_words (word.now ∷ words.entry) }
 {
-    if is_word(word, b"start") {
-        return start(words);
+    match text_of(word) {
+        "queues" => queues(words),
+        "disk" => disk(words),
+        "expander" => expander(words),
+        "plug" => plug(words),
+        "unplug" => unplug(words),
+        "reset" => reset(words),
+        "treset" => treset(words),
+        "submit" => submit(words),
+        "abort" => abort(words),
+        _ => Err(Cause::Form),
     }
-    if is_word(word, b"reset") {
-        return reset(words);
-    }
-    if is_word(word, b"unit") {
-        return unit(words);
-    }
-    if is_word(word, b"treset") {
-        return treset(words);
-    }
-    if is_word(word, b"submit") {
-        return submit(words);
-    }
-    if is_word(word, b"abort") {
-        return abort(words);
-    }
-    choice_line(word, words)
-}
-
-fn choice_line(word: &[u8], words: Pieces) -> Result<Statement, Cause>
-    ensures { result ≡ spec.choice_line word.now words.entry }
-{
-    if is_word(word, b"fabric-run") {
-        return fabric_run(words);
-    }
-    if is_word(word, b"ioc-put-on") {
-        return ioc_put_on(words);
-    }
-    if is_word(word, b"host-take-on") {
-        return host_take_on(words);
-    }
-    plain_choice(word, words)
-}
-
-fn plain_choice(word: &[u8], words: Pieces) -> Result<Statement, Cause>
-    ensures { result ≡ spec.plain_choice word.now words.entry }
-{
-    if is_word(word, b"host-put") {
-        return counted(Choice::HostPut, words);
-    }
-    if is_word(word, b"host-take") {
-        return counted(Choice::HostTake, words);
-    }
-    if is_word(word, b"ioc-take") {
-        return counted(Choice::IocTake, words);
-    }
-    if is_word(word, b"ioc-high") {
-        return counted(Choice::IocHigh, words);
-    }
-    if is_word(word, b"ioc-normal") {
-        return counted(Choice::IocNormal, words);
-    }
-    if is_word(word, b"ioc-out") {
-        return counted(Choice::IocOut, words);
-    }
-    if is_word(word, b"ioc-back") {
-        return counted(Choice::IocBack, words);
-    }
-    if is_word(word, b"ioc-put") {
-        return counted(Choice::IocPut, words);
-    }
-    if is_word(word, b"fabric-take") {
-        return counted(Choice::FabricTake, words);
-    }
-    if is_word(word, b"fabric-say") {
-        return counted(Choice::FabricSay, words);
-    }
-    if is_word(word, b"fabric-put") {
-        return counted(Choice::FabricPut, words);
-    }
-    Err(Cause::Form)
 }
 
 fn queues(words: Pieces) -> Result<Statement, Cause>
@@ -351,13 +293,11 @@ pub fn plan_line(mut words: Pieces) -> Result<PlanStatement, Cause>
     let Some(word) = words.take() else {
         return Err(Cause::Form);
     };
-    if is_word(word, b"submitter") {
-        return submitter(words);
+    match text_of(word) {
+        "submitter" => submitter(words),
+        "fabric" => fabric(words),
+        _ => Ok(PlanStatement::Line(shared_line(word, words)?)),
     }
-    if is_word(word, b"fabric") {
-        return fabric(words);
-    }
-    Ok(PlanStatement::Line(shared_line(word, words)?))
 }
 
 fn submitter(words: Pieces) -> Result<PlanStatement, Cause>
@@ -371,37 +311,4 @@ fn fabric(words: Pieces) -> Result<PlanStatement, Cause>
 {
     words.none()?;
     Ok(PlanStatement::Fabric)
-}
-
-fn shared_line(word: &[u8], words: Pieces) -> Result<Statement, Cause>
-    ensures { result ≡ spec.shared_line word.now words.entry }
-{
-    if is_word(word, b"queues") {
-        return queues(words);
-    }
-    if is_word(word, b"disk") {
-        return disk(words);
-    }
-    if is_word(word, b"expander") {
-        return expander(words);
-    }
-    if is_word(word, b"plug") {
-        return plug(words);
-    }
-    if is_word(word, b"unplug") {
-        return unplug(words);
-    }
-    if is_word(word, b"reset") {
-        return reset(words);
-    }
-    if is_word(word, b"treset") {
-        return treset(words);
-    }
-    if is_word(word, b"submit") {
-        return submit(words);
-    }
-    if is_word(word, b"abort") {
-        return abort(words);
-    }
-    Err(Cause::Form)
 }

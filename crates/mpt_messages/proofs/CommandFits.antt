@@ -3,9 +3,10 @@ use Rattle.std.proofs.Common.{◌≡◌, ℕ, ◌^◌, ◌<◌, ◌≤◌, ◌�
 use Rattle.std.proofs.lemmas.Nat.{and_mask}
 use Rattle.std.proofs.lemmas.Bool.Decides.{nat_tests}
 use Rattle.mpi_layout.specs.Rows.{values_fit}
+use Rattle.mpi_names.specs.declared.memory.TheConstants.{SENSE_BUFFER_BYTES}
 use Rattle.scsi_msgs.specs.declared.scsi_io.ScsiIo.{ScsiIo}
 use Rattle.scsi_msgs.specs.ScsiIo.{scsi_io_layout, scsi_io_values}
-use Rattle.mpt_messages.specs.Blank.{blank_scsi_io}
+use Rattle.scsi_msgs.specs.declared.scsi_io.TheConstants.ScsiIo.{BLANK as blank_scsi_io}
 use Rattle.mpt_messages.specs.HostFrames.{direction}
 
 -- a SCSI IO of these numbers
@@ -13,8 +14,7 @@ abbrev pub io : ℕ → ℕ → ℕ → ℕ → ℕ → ℕ → ℕ → ℕ → 
 io handle sense lun len cdb_len way front back flags address = record blank_scsi_io {
   dev_handle = handle;
   sense_buffer_low_address = sense;
-  sense_buffer_length = 96;
-  sgl_offset0 = 24;
+  sense_buffer_length = SENSE_BUFFER_BYTES;
   data_length = len;
   io_flags = cdb_len;
   lun = lun;

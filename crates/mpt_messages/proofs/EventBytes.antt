@@ -8,18 +8,13 @@ use Rattle.event_msgs.specs.declared.event_data.EventData.{EventData}
 use Rattle.event_msgs.specs.declared.event_data.EventData.TheVariants as kind
 use Rattle.event_msgs.specs.declared.topology.Topology.{Topology}
 use Rattle.event_msgs.specs.EventData.{DataStands}
-use Rattle.event_msgs.specs.Padding.{padded}
+use Rattle.mpi_layout.proofs.Tails.{padded-front}
 use Rattle.event_msgs.specs.Topology.{TopologyStands, topology_end, topology_layout, topology_values}
 use Rattle.event_msgs.specs.TopologyEntry.{blank, entry_at, topology_entry_layout, topology_entry_values}
 use Rattle.event_msgs.proofs.Entries.{entry_behind}
 use Rattle.mpt_messages.specs.FrameBytes.{layout_bytes, entry_bytes, data_bytes}
 use Rattle.mpt_messages.proofs.RowsBytes.{rows_taken, stands_front}
 use Rattle.mpt_messages.proofs.Shapes.{topology-whole}
-
--- a part with zeros behind it begins with the part
-padded-front : (n most : ℕ) (kept part : List ℕ) → length part ≡ n → kept ≡ padded most part → take n kept ≡ part
-padded-front n most kept part long behind =
-    ap (take n) behind ∙ take-append-le n part (replicate (most - length part) 0) (omega (arith, long)) ∙ take_all n part (omega (arith, long))
 
 -- the first of bytes are bytes
 small_front : (n : ℕ) (bytes : List ℕ) → ((k : ℕ) → get_or bytes k 0 < 256) → (k : ℕ) → get_or (take n bytes) k 0 < 256

@@ -28,14 +28,17 @@ use Rattle.scsi_msgs.proofs.ScsiReplyTail.{fit_parts}
 use Rattle.event_msgs.specs.EventReply.{EventReplyStands, event_reply_fit}
 use Rattle.event_msgs.specs.Topology.{TopologyStands}
 use Rattle.event_msgs.specs.TopologyEntry.{entry_at}
-use Rattle.event_msgs.specs.Padding.{padded}
+use Rattle.mpi_layout.specs.Tail.{padded}
 use Rattle.event_msgs.specs.declared.topology_entry.TopologyEntry.{TopologyEntry}
 use Rattle.event_msgs.specs.declared.event_data.EventData.TheVariants as kind
 use Rattle.event_msgs.proofs.EventBytes.{fit_parts as event_parts}
 use Rattle.event_msgs.proofs.TopologyList.{topology_parts}
 use Rattle.event_msgs.proofs.Entries.{entry_behind}
 use Rattle.event_msgs.proofs.TopologyEntryFields.{entry_fits, entry_is}
-use Rattle.mpt_messages.specs.Blank.{blank_event_reply, blank_topology_entry, blank_ioc_facts, blank_port_enable, blank_port_facts}
+use Rattle.event_msgs.specs.TopologyEntry.{blank as blank_topology_entry}
+use Rattle.ioc_msgs.specs.declared.ioc_facts.TheConstants.IocFacts.{BLANK as blank_ioc_facts}
+use Rattle.ioc_msgs.specs.declared.port_enable.TheConstants.PortEnable.{BLANK as blank_port_enable}
+use Rattle.ioc_msgs.specs.declared.port_facts.TheConstants.PortFacts.{BLANK as blank_port_facts}
 use Rattle.mpt_messages.specs.FrameBytes.{layout_bytes, data_bytes, entry_bytes, message_frame}
 use Rattle.mpt_messages.specs.declared.host_ask.HostAsk.{HostAsk}
 use Rattle.mpt_messages.specs.declared.host_ask.HostAsk.TheVariants as ask
@@ -44,7 +47,7 @@ use Rattle.mpt_messages.specs.declared.ioc_reply.IocReply.TheVariants as reply
 use Rattle.mpt_messages.specs.declared.message.Message.{Message}
 use Rattle.mpt_messages.specs.declared.message.Message.TheVariants as message
 use Rattle.mpt_messages.specs.HostFrames.{host_message, scsi_io_asked, task_asked, page_asked, removal_asked, ack_asked, notification_asked, init_asked}
-use Rattle.mpt_messages.specs.IocFrames.{ReplyStands, ioc_message, reply_frame, scsi_answered, task_answered, config_answered, facts_answered, port_answered, removal_answered, topology_told, change_list, change_entry}
+use Rattle.mpt_messages.specs.IocFrames.{ReplyStands, ioc_message, reply_frame, scsi_answered, task_answered, config_answered, facts_answered, port_answered, removal_answered, topology_told, change_list, change_entry, notified}
 use Rattle.mpt_messages.specs.Message.{MessageStands, message_fit}
 use Rattle.mpt_messages.proofs.IocFits.{notified_fits}
 use Rattle.mpt_messages.proofs.LayoutStands.{bytes_stand, layout_bytes-length}
@@ -81,17 +84,17 @@ scsi_frame_stands handle smid scsi_status status moved sense fit =
     }
 
 -- the answer to event notification, which has no data
-notified_frame_stands : EventReplyStands blank_event_reply (message_frame (message.EventReply blank_event_reply))
+notified_frame_stands : EventReplyStands notified (message_frame (message.EventReply notified))
 notified_frame_stands =
-    let fit = event_parts blank_event_reply notified_fits in
-    let numbers = layout_bytes event_reply_layout (event_reply_values blank_event_reply) in
+    let fit = event_parts notified notified_fits in
+    let numbers = layout_bytes event_reply_layout (event_reply_values notified) in
     let same : numbers ++ replicate 100 0 ≡ numbers ++ [] ++ replicate 100 0 = ap (λ xs. xs ++ replicate 100 0) (sym (append-nil numbers)) in
-    let fixed = bytes_stand event_reply_layout (event_reply_values blank_event_reply) (replicate 100 0) (event_reply-whole).tiled (event_reply-paired blank_event_reply) fit.rows in
+    let fixed = bytes_stand event_reply_layout (event_reply_values notified) (replicate 100 0) (event_reply-whole).tiled (event_reply-paired notified) fit.rows in
     let enough = fixed.enough in
     let long = (event_reply-whole).long in
     let whole : 28 ≤ length (numbers ++ replicate 100 0) = omega (arith, long, enough) in
     record {
-      fixed = subst (Stands event_reply_layout (event_reply_values blank_event_reply)) same fixed;
+      fixed = subst (Stands event_reply_layout (event_reply_values notified)) same fixed;
       whole = subst (λ xs. 28 ≤ length xs) same whole;
       kind = refl;
       event_data = refl;

@@ -11,7 +11,9 @@ use Rattle.config_pages.specs.ConfigAsk.{config_ask_layout, config_ask_values}
 use Rattle.event_msgs.specs.EventAck.{event_ack_layout, event_ack_values}
 use Rattle.event_msgs.specs.EventAsk.{event_ask_layout, event_ask_values}
 use Rattle.ioc_msgs.specs.UnitControl.{unit_control_layout, unit_control_values}
-use Rattle.mpt_messages.specs.Blank.{blank_ioc_facts, blank_port_facts, blank_port_enable}
+use Rattle.ioc_msgs.specs.declared.ioc_facts.TheConstants.IocFacts.{BLANK as blank_ioc_facts}
+use Rattle.ioc_msgs.specs.declared.port_facts.TheConstants.PortFacts.{BLANK as blank_port_facts}
+use Rattle.ioc_msgs.specs.declared.port_enable.TheConstants.PortEnable.{BLANK as blank_port_enable}
 use Rattle.mpt_messages.specs.HostFrames.{IsTask, task_asked, page_asked, removal_asked, ack_asked, init_asked, notification_asked}
 
 pub facts_fits : IsTrue (values_fit (ioc_facts_layout).rows (ioc_facts_values blank_ioc_facts))

@@ -11,9 +11,8 @@ use Rattle.config_pages.specs.ConfigReply.{config_reply_layout, config_reply_val
 use Rattle.config_pages.specs.DevicePage0.{device_page0_layout, device_page0_values}
 use Rattle.event_msgs.specs.EventReply.{event_reply_fit, event_reply_layout, event_reply_values}
 use Rattle.event_msgs.specs.Topology.{topology_layout, topology_values}
-use Rattle.mpt_messages.specs.Blank.{blank_event_reply}
 use Rattle.mpt_messages.specs.DevicePage.{disk_page}
-use Rattle.mpt_messages.specs.IocFrames.{config_answered, facts_answered, port_answered, removal_answered, scsi_answered, task_answered, topology_told}
+use Rattle.mpt_messages.specs.IocFrames.{config_answered, facts_answered, port_answered, removal_answered, scsi_answered, task_answered, topology_told, notified}
 
 pub scsi_fits : (handle smid scsi_status status moved sense : ℕ) → handle < 2 ^ 16 → smid < 2 ^ 16 → scsi_status < 2 ^ 8 → status < 2 ^ 16 → moved < 2 ^ 32 → sense < 2 ^ 32 → IsTrue (scsi_reply_fit (scsi_answered handle smid scsi_status status moved sense))
 unfolding scsi_reply_layout scsi_reply_values
@@ -39,7 +38,7 @@ pub removed_fits : (handle operation status : ℕ) → handle < 2 ^ 16 → opera
 unfolding unit_control_reply_layout unit_control_reply_values
 removed_fits handle operation status h o s = grind (arith, nat_tests)
 
-pub notified_fits : IsTrue (event_reply_fit blank_event_reply)
+pub notified_fits : IsTrue (event_reply_fit notified)
 unfolding event_reply_layout event_reply_values
 notified_fits = refl
 

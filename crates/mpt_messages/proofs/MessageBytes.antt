@@ -3,11 +3,12 @@ use Rattle.std.proofs.Common.{◌≡◌, ℕ, ◌+◌, ◌-◌, ◌*◌, ◌<◌
 use Rattle.std.proofs.Math.Seq.{take-add}
 use Rattle.std.proofs.lemmas.List.{get_or-drop, length-drop, length-take-le, take_all, take-append-le, take-append-drop}
 use Rattle.mpi_layout.specs.Rows.{Shape, Stands}
+use Rattle.mpi_layout.proofs.Tails.{padded-front}
 use Rattle.scsi_msgs.specs.declared.scsi_reply.ScsiReply.{ScsiReply}
 use Rattle.scsi_msgs.proofs.ScsiReplyTail.{fit_parts, msg_length-range}
 use Rattle.event_msgs.specs.declared.event_reply.EventReply.{EventReply}
 use Rattle.event_msgs.specs.EventReply.{EventReplyStands, event_reply_length}
-use Rattle.scsi_msgs.specs.ScsiReply.{ScsiReplyStands, scsi_reply_fit, scsi_reply_length, padded}
+use Rattle.scsi_msgs.specs.ScsiReply.{ScsiReplyStands, scsi_reply_fit, scsi_reply_length}
 use Rattle.scsi_msgs.specs.ScsiIo.{scsi_io_layout, scsi_io_values}
 use Rattle.scsi_msgs.specs.TaskAsk.{task_ask_layout, task_ask_values}
 use Rattle.ioc_msgs.specs.IocInit.{ioc_init_layout, ioc_init_values}
@@ -40,11 +41,6 @@ use Rattle.mpt_messages.proofs.Shapes.{IsWhole, scsi_io-whole, task_ask-whole, i
 plain_taken : (layout : Shape) (n : ℕ) (values bytes : List ℕ) → IsWhole layout n → ((k : ℕ) → get_or bytes k 0 < 256) → Stands layout values bytes → take n bytes ≡ layout_bytes layout values
 plain_taken layout n values bytes whole small stands = stands_front layout n values bytes whole.long whole.tiled small stands
 
--- a part with zeros behind it begins with the part
-pub padded-front : (n : ℕ) (tail part : List ℕ) → length part ≡ n → tail ≡ padded 88 part → take n tail ≡ part
-padded-front n tail part long behind =
-    ap (take n) behind ∙ take-append-le n part (replicate (88 - length part) 0) (omega (arith, long)) ∙ take_all n part (omega (arith, long))
-
 -- a SCSI IO reply: its fixed part and its tail
 scsi_reply_taken : (m : ScsiReply) (bytes : List ℕ) → IsTrue (scsi_reply_fit m) → ((k : ℕ) → get_or bytes k 0 < 256) → ScsiReplyStands m bytes → take (scsi_reply_length m) bytes ≡ layout_bytes scsi_reply_layout (scsi_reply_values m) ++ take (scsi_reply_length m - 40) m.tail
 scsi_reply_taken m bytes fit small stands =
@@ -56,7 +52,7 @@ scsi_reply_taken m bytes fit small stands =
     let count : scsi_reply_length m ≡ 40 + past = omega arith in
     let room : past ≤ length (drop 40 bytes) = simp length-drop (omega arith) in
     let long : length part ≡ past = length-take-le past (drop 40 bytes) room in
-    let tail = padded-front past m.tail part long stands.tail in
+    let tail = padded-front past 88 m.tail part long stands.tail in
     ap (λ n. take n bytes) count ∙ take-add 40 past bytes ∙ ap (λ xs. xs ++ part) fixed ∙ ap (λ xs. layout_bytes scsi_reply_layout (scsi_reply_values m) ++ xs) (sym tail)
 
 -- an event: its fixed part and its data

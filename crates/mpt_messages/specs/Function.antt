@@ -1,5 +1,6 @@
 -- The functions of messages, and by which way a request of each travels.
 use Rattle.std.specs.Prelude.{ℕ, Option, Some, None, ◌==◌, if◌then◌else◌}
+use Rattle.mpi_names.specs.declared.function.TheConstants.{MPI2_FUNCTION_CONFIG, MPI2_FUNCTION_EVENT_ACK, MPI2_FUNCTION_EVENT_NOTIFICATION, MPI2_FUNCTION_IOC_FACTS, MPI2_FUNCTION_IOC_INIT, MPI2_FUNCTION_PORT_ENABLE, MPI2_FUNCTION_PORT_FACTS, MPI2_FUNCTION_SAS_IO_UNIT_CONTROL, MPI2_FUNCTION_SCSI_IO_REQUEST, MPI2_FUNCTION_SCSI_TASK_MGMT}
 use Rattle.mpt_messages.specs.declared.function.Function.{Function}
 use Rattle.mpt_messages.specs.declared.function.Function.TheVariants as function
 use Rattle.mpt_messages.specs.declared.function.Kind.{Kind}
@@ -7,30 +8,30 @@ use Rattle.mpt_messages.specs.declared.function.Kind.TheVariants as kind
 
 -- the function's byte
 abbrev pub byte_of : Function → ℕ
-byte_of function.ScsiIo = 0x00
-byte_of function.TaskManagement = 0x01
-byte_of function.IocInit = 0x02
-byte_of function.IocFacts = 0x03
-byte_of function.Config = 0x04
-byte_of function.PortFacts = 0x05
-byte_of function.PortEnable = 0x06
-byte_of function.EventNotification = 0x07
-byte_of function.EventAck = 0x08
-byte_of function.UnitControl = 0x1b
+byte_of function.ScsiIo = MPI2_FUNCTION_SCSI_IO_REQUEST
+byte_of function.TaskManagement = MPI2_FUNCTION_SCSI_TASK_MGMT
+byte_of function.IocInit = MPI2_FUNCTION_IOC_INIT
+byte_of function.IocFacts = MPI2_FUNCTION_IOC_FACTS
+byte_of function.Config = MPI2_FUNCTION_CONFIG
+byte_of function.PortFacts = MPI2_FUNCTION_PORT_FACTS
+byte_of function.PortEnable = MPI2_FUNCTION_PORT_ENABLE
+byte_of function.EventNotification = MPI2_FUNCTION_EVENT_NOTIFICATION
+byte_of function.EventAck = MPI2_FUNCTION_EVENT_ACK
+byte_of function.UnitControl = MPI2_FUNCTION_SAS_IO_UNIT_CONTROL
 
 -- the function of a byte
 abbrev pub function_of : ℕ → Option Function
 function_of byte =
-    if byte == 0x00 then Some function.ScsiIo
-    else if byte == 0x01 then Some function.TaskManagement
-    else if byte == 0x02 then Some function.IocInit
-    else if byte == 0x03 then Some function.IocFacts
-    else if byte == 0x04 then Some function.Config
-    else if byte == 0x05 then Some function.PortFacts
-    else if byte == 0x06 then Some function.PortEnable
-    else if byte == 0x07 then Some function.EventNotification
-    else if byte == 0x08 then Some function.EventAck
-    else if byte == 0x1b then Some function.UnitControl
+    if byte == MPI2_FUNCTION_SCSI_IO_REQUEST then Some function.ScsiIo
+    else if byte == MPI2_FUNCTION_SCSI_TASK_MGMT then Some function.TaskManagement
+    else if byte == MPI2_FUNCTION_IOC_INIT then Some function.IocInit
+    else if byte == MPI2_FUNCTION_IOC_FACTS then Some function.IocFacts
+    else if byte == MPI2_FUNCTION_CONFIG then Some function.Config
+    else if byte == MPI2_FUNCTION_PORT_FACTS then Some function.PortFacts
+    else if byte == MPI2_FUNCTION_PORT_ENABLE then Some function.PortEnable
+    else if byte == MPI2_FUNCTION_EVENT_NOTIFICATION then Some function.EventNotification
+    else if byte == MPI2_FUNCTION_EVENT_ACK then Some function.EventAck
+    else if byte == MPI2_FUNCTION_SAS_IO_UNIT_CONTROL then Some function.UnitControl
     else None
 
 -- by which way a request of the function travels

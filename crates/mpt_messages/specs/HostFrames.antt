@@ -8,27 +8,34 @@ use Rattle.ioc_msgs.specs.declared.unit_control.UnitControl.{UnitControl}
 use Rattle.config_pages.specs.declared.config_ask.ConfigAsk.{ConfigAsk}
 use Rattle.event_msgs.specs.declared.event_ask.EventAsk.{EventAsk}
 use Rattle.event_msgs.specs.declared.event_ack.EventAck.{EventAck}
-use Rattle.mpt_messages.specs.Blank.{blank_scsi_io, blank_task_ask, blank_ioc_init, blank_ioc_facts, blank_config_ask, blank_port_facts, blank_port_enable, blank_event_ask, blank_event_ack, blank_unit_control}
+use Rattle.mpi_names.specs.declared.config.TheConstants.{MPI2_CONFIG_ACTION_PAGE_READ_CURRENT, MPI2_CONFIG_EXTPAGETYPE_SAS_DEVICE, MPI2_CONFIG_PAGETYPE_EXTENDED, MPI2_SASDEVICE0_PAGEVERSION, MPI2_SAS_DEVICE_PGAD_FORM_HANDLE, SAS_DEVICE_PAGE_0_BYTES, SAS_DEVICE_PAGE_0_DWORDS}
+use Rattle.mpi_names.specs.declared.ioc_init.TheConstants.{MPI2_WHOINIT_HOST_DRIVER, REPLY_QUEUES}
+use Rattle.mpi_names.specs.declared.limit.TheConstants.{MAX_TRANSFER}
+use Rattle.mpi_names.specs.declared.memory.TheConstants.{DATA_BUFFERS, DATA_BUFFER_BYTES, FRAME_DWORDS, FREE_RING_ENTRIES, POST_RING_ENTRIES, REPLY_FREE_QUEUE, REPLY_POST_QUEUE, REQUEST_FRAMES, SENSE_BUFFERS, SENSE_BUFFER_BYTES}
+use Rattle.mpi_names.specs.declared.sas_operation.TheConstants.{MPI2_SAS_OP_REMOVE_DEVICE}
+use Rattle.mpi_names.specs.declared.smid.TheConstants.{FIRST_INTERNAL_SMID, FIRST_SCSI_IO_SMID, LAST_INTERNAL_SMID, LAST_SCSI_IO_SMID}
+use Rattle.mpi_names.specs.declared.task_management.TheConstants.{MPI2_SCSITASKMGMT_TASKTYPE_ABORT_TASK, MPI2_SCSITASKMGMT_TASKTYPE_TARGET_RESET}
+use Rattle.scsi_msgs.specs.declared.scsi_io.TheConstants.ScsiIo.{BLANK as blank_scsi_io}
+use Rattle.scsi_msgs.specs.declared.task_ask.TheConstants.TaskAsk.{BLANK as blank_task_ask}
+use Rattle.ioc_msgs.specs.declared.ioc_init.TheConstants.IocInit.{BLANK as blank_ioc_init}
+use Rattle.ioc_msgs.specs.declared.ioc_facts.TheConstants.IocFacts.{BLANK as blank_ioc_facts}
+use Rattle.config_pages.specs.declared.config_ask.TheConstants.ConfigAsk.{BLANK as blank_config_ask}
+use Rattle.ioc_msgs.specs.declared.port_facts.TheConstants.PortFacts.{BLANK as blank_port_facts}
+use Rattle.ioc_msgs.specs.declared.port_enable.TheConstants.PortEnable.{BLANK as blank_port_enable}
+use Rattle.event_msgs.specs.declared.event_ask.TheConstants.EventAsk.{BLANK as blank_event_ask}
+use Rattle.event_msgs.specs.declared.event_ack.TheConstants.EventAck.{BLANK as blank_event_ack}
+use Rattle.ioc_msgs.specs.declared.unit_control.TheConstants.UnitControl.{BLANK as blank_unit_control}
 use Rattle.mpt_messages.specs.declared.host_ask.HostAsk.{HostAsk}
 use Rattle.mpt_messages.specs.declared.host_ask.HostAsk.TheVariants as ask
 use Rattle.mpt_messages.specs.declared.message.Message.{Message}
 use Rattle.mpt_messages.specs.declared.message.Message.TheVariants as message
 
--- where the host's memory has the request frames, both reply queues, and an identifier's data and sense buffers
-abbrev pub request_frames : ℕ
-request_frames = 0x0000_0001_0000_0000
-
+-- where the host's memory has an identifier's data and sense buffers
 abbrev pub data_address : ℕ → ℕ
-data_address smid = 0x0000_0002_0000_0000 + 4096 * smid
+data_address smid = DATA_BUFFERS + DATA_BUFFER_BYTES * smid
 
 abbrev pub sense_address : ℕ → ℕ
-sense_address smid = 0x0010_0000 + 96 * smid
-
-abbrev pub reply_post_queue : ℕ
-reply_post_queue = 0x0000_0003_0000_0000
-
-abbrev pub reply_free_queue : ℕ
-reply_free_queue = 0x0000_0004_0000_0000
+sense_address smid = SENSE_BUFFERS + SENSE_BUFFER_BYTES * smid
 
 -- ControlDirection: 0 no data, 1 write, 2 read
 abbrev pub direction : ℕ → Bool → ℕ
@@ -47,8 +54,7 @@ abbrev pub scsi_io_asked : ℕ → ℕ → ℕ → List ℕ → ℕ → ℕ → 
 scsi_io_asked smid handle lun cdb cdb_len len write = record blank_scsi_io {
   dev_handle = handle;
   sense_buffer_low_address = sense_address smid;
-  sense_buffer_length = 96;
-  sgl_offset0 = 24;
+  sense_buffer_length = SENSE_BUFFER_BYTES;
   data_length = len;
   io_flags = cdb_len;
   lun = lun;
@@ -67,20 +73,20 @@ task_asked handle task_type task_mid = record blank_task_ask { dev_handle = hand
 -- a read of SAS Device Page 0 by its handle
 abbrev pub page_asked : ℕ → ℕ → ConfigAsk
 page_asked smid handle = record blank_config_ask {
-  action = 1;
-  ext_page_length = 14;
-  ext_page_type = 0x12;
-  page_version = 8;
-  page_type = 0x0f;
-  page_address = 0x2000_0000 + handle;
-  sge_length = 56;
+  action = MPI2_CONFIG_ACTION_PAGE_READ_CURRENT;
+  ext_page_length = SAS_DEVICE_PAGE_0_DWORDS;
+  ext_page_type = MPI2_CONFIG_EXTPAGETYPE_SAS_DEVICE;
+  page_version = MPI2_SASDEVICE0_PAGEVERSION;
+  page_type = MPI2_CONFIG_PAGETYPE_EXTENDED;
+  page_address = MPI2_SAS_DEVICE_PGAD_FORM_HANDLE + handle;
+  sge_length = SAS_DEVICE_PAGE_0_BYTES;
   sge_flags = 0xd3;
   sge_address = data_address smid;
 }
 
 -- the removal of a device
 abbrev pub removal_asked : ℕ → UnitControl
-removal_asked handle = record blank_unit_control { operation = 0x0d; dev_handle = handle }
+removal_asked handle = record blank_unit_control { operation = MPI2_SAS_OP_REMOVE_DEVICE; dev_handle = handle }
 
 -- the acknowledgement of an event
 abbrev pub ack_asked : ℕ → ℕ → EventAck
@@ -98,15 +104,14 @@ notification_asked = record blank_event_ask {
 -- IOC Init with so many reply post queues
 abbrev pub init_asked : ℕ → IocInit
 init_asked queues = record blank_ioc_init {
-  who_init = 4;
-  msg_version = 0x0200;
+  who_init = MPI2_WHOINIT_HOST_DRIVER;
   host_msix_vectors = queues;
-  system_request_frame_size = 32;
-  reply_descriptor_post_queue_depth = 352;
-  reply_free_queue_depth = 80;
-  system_request_frame_base_address = request_frames;
-  reply_descriptor_post_queue_address = reply_post_queue;
-  reply_free_queue_address = reply_free_queue;
+  system_request_frame_size = FRAME_DWORDS;
+  reply_descriptor_post_queue_depth = POST_RING_ENTRIES;
+  reply_free_queue_depth = FREE_RING_ENTRIES;
+  system_request_frame_base_address = REQUEST_FRAMES;
+  reply_descriptor_post_queue_address = REPLY_POST_QUEUE;
+  reply_free_queue_address = REPLY_FREE_QUEUE;
 }
 
 -- the message of a request
@@ -124,25 +129,27 @@ host_message (ask.Init queues) = message.IocInit (init_asked queues)
 
 -- a command that the host may ask: an identifier of a SCSI IO, a CDB of 1 to 16 bytes with zeros behind it, at most 4,096 bytes of data, and no write of none
 pub record IsCommand (smid : ℕ) (cdb : List ℕ) (cdb_len len : ℕ) (write : Bool) : Type 0 where
-  pub identifier : (1 ≤ smid) × (smid ≤ 256)
+  pub identifier : (FIRST_SCSI_IO_SMID ≤ smid) × (smid ≤ LAST_SCSI_IO_SMID)
   pub command : (1 ≤ cdb_len) × (cdb_len ≤ 16)
   pub zeros : All (λ byte. byte ≡ 0) (drop cdb_len cdb)
-  pub short : len ≤ 4096
+  pub short : len ≤ MAX_TRANSFER
   pub write_moves : len ≡ 0 → write ≡ false
 
 -- an abort of a SCSI IO's identifier, or a target reset
 abbrev pub IsTask : ℕ → ℕ → Type 0
-IsTask task_type task_mid = ((task_type ≡ 1) × (1 ≤ task_mid) × (task_mid ≤ 256)) ⊎ ((task_type ≡ 3) × (task_mid ≡ 0))
+IsTask task_type task_mid =
+    ((task_type ≡ MPI2_SCSITASKMGMT_TASKTYPE_ABORT_TASK) × (FIRST_SCSI_IO_SMID ≤ task_mid) × (task_mid ≤ LAST_SCSI_IO_SMID))
+    ⊎ ((task_type ≡ MPI2_SCSITASKMGMT_TASKTYPE_TARGET_RESET) × (task_mid ≡ 0))
 
 -- what the host may ask
 abbrev pub IsAsk : HostAsk → Type 0
 IsAsk (ask.ScsiIo smid handle lun cdb cdb_len len write) = IsCommand smid cdb cdb_len len write
 IsAsk (ask.Task handle task_type task_mid) = IsTask task_type task_mid
-IsAsk (ask.PageRead smid handle) = (265 ≤ smid) × (smid ≤ 280)
+IsAsk (ask.PageRead smid handle) = (FIRST_INTERNAL_SMID ≤ smid) × (smid ≤ LAST_INTERNAL_SMID)
 IsAsk (ask.Remove handle) = Unit {0}
 IsAsk (ask.Ack event context) = Unit {0}
 IsAsk ask.Notification = Unit {0}
 IsAsk ask.PortEnable = Unit {0}
 IsAsk ask.Facts = Unit {0}
 IsAsk ask.PortFacts = Unit {0}
-IsAsk (ask.Init queues) = (1 ≤ queues) × (queues ≤ 8)
+IsAsk (ask.Init queues) = (1 ≤ queues) × (queues ≤ REPLY_QUEUES)

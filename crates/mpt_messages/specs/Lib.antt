@@ -1,5 +1,5 @@
 -- All messages together, their listings, and the frames that the two ends write.
-pub mod Blank
+pub mod DescriptorListing
 pub mod DevicePage
 pub mod EventListing
 pub mod Fault

@@ -4,19 +4,18 @@ ghost use Rattle.mpi_layout.specs.Rows.{values_fit};
 ghost use Rattle.config_pages.specs.DevicePage0.{device_page0_layout, device_page0_values};
 ghost use Rattle.mpt_messages.specs.DevicePage.{disk_page, expander_handle};
 
-use crate::blank;
-use crate::names::{Address, Handle};
 use config_pages::DevicePage0;
-
-// The device handle of expander 0; the others follow it.
-const EXPANDERS: Handle = 0x0049;
+use mpi_names::{
+    Address, FIRST_EXPANDER_HANDLE, Handle, MPI2_CONFIG_PAGETYPE_EXTENDED,
+    MPI2_SASDEVICE0_PAGEVERSION, SAS_DEVICE_PAGE_0_DWORDS,
+};
 
 // The device handle of an expander.
 pub(crate) fn expander_handle(expander: u8) -> Handle
     requires { expander < 16 }
     ensures { result ≡ expander_handle expander }
 {
-    EXPANDERS + u16::from(expander)
+    FIRST_EXPANDER_HANDLE + u16::from(expander)
 }
 
 /// SAS Device Page 0 of the disk with this handle and SAS address at a phy of an expander
@@ -27,10 +26,9 @@ pub fn device_page(handle: Handle, address: Address, expander: u8, phy: u8) -> D
     ensures fitting { IsTrue (values_fit device_page0_layout.rows (device_page0_values result)) }
 {
     DevicePage0 {
-        page_version: 8,
-        page_type: 0x0f,
-        ext_page_length: 14,
-        ext_page_type: 0x12,
+        page_version: MPI2_SASDEVICE0_PAGEVERSION,
+        page_type: MPI2_CONFIG_PAGETYPE_EXTENDED,
+        ext_page_length: SAS_DEVICE_PAGE_0_DWORDS,
         slot: u16::from(phy),
         enclosure_handle: 1,
         sas_address: address,
@@ -41,6 +39,6 @@ pub fn device_page(handle: Handle, address: Address, expander: u8, phy: u8) -> D
         flags: 0x0001,
         max_port_connections: 1,
         device_name: address,
-        ..blank::DEVICE_PAGE0
+        ..DevicePage0::BLANK
     }
 }

@@ -2,6 +2,13 @@
 ghost use Rattle.std.specs.Prelude.{◌≡◌};
 ghost use Rattle.mpt_messages.specs.Function.{function_of, kind_of};
 
+use mpi_names::{
+    MPI2_FUNCTION_CONFIG, MPI2_FUNCTION_EVENT_ACK, MPI2_FUNCTION_EVENT_NOTIFICATION,
+    MPI2_FUNCTION_IOC_FACTS, MPI2_FUNCTION_IOC_INIT, MPI2_FUNCTION_PORT_ENABLE,
+    MPI2_FUNCTION_PORT_FACTS, MPI2_FUNCTION_SAS_IO_UNIT_CONTROL, MPI2_FUNCTION_SCSI_IO_REQUEST,
+    MPI2_FUNCTION_SCSI_TASK_MGMT,
+};
+
 /// By which way a request travels.
 #[derive(Clone, Copy, Debug, PartialEq, Eq)]
 pub enum Kind {
@@ -46,16 +53,16 @@ impl Function {
         ensures { result ≡ function_of byte }
     {
         match byte {
-            0x00 => Some(Function::ScsiIo),
-            0x01 => Some(Function::TaskManagement),
-            0x02 => Some(Function::IocInit),
-            0x03 => Some(Function::IocFacts),
-            0x04 => Some(Function::Config),
-            0x05 => Some(Function::PortFacts),
-            0x06 => Some(Function::PortEnable),
-            0x07 => Some(Function::EventNotification),
-            0x08 => Some(Function::EventAck),
-            0x1b => Some(Function::UnitControl),
+            MPI2_FUNCTION_SCSI_IO_REQUEST => Some(Function::ScsiIo),
+            MPI2_FUNCTION_SCSI_TASK_MGMT => Some(Function::TaskManagement),
+            MPI2_FUNCTION_IOC_INIT => Some(Function::IocInit),
+            MPI2_FUNCTION_IOC_FACTS => Some(Function::IocFacts),
+            MPI2_FUNCTION_CONFIG => Some(Function::Config),
+            MPI2_FUNCTION_PORT_FACTS => Some(Function::PortFacts),
+            MPI2_FUNCTION_PORT_ENABLE => Some(Function::PortEnable),
+            MPI2_FUNCTION_EVENT_NOTIFICATION => Some(Function::EventNotification),
+            MPI2_FUNCTION_EVENT_ACK => Some(Function::EventAck),
+            MPI2_FUNCTION_SAS_IO_UNIT_CONTROL => Some(Function::UnitControl),
             _ => None,
         }
     }

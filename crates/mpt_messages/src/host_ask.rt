@@ -11,30 +11,21 @@ ghost use Rattle.mpt_messages.specs.FrameBytes.{message_frame};
 ghost use Rattle.mpt_messages.specs.HostFrames.{IsAsk, IsTask, ack_asked, data_address, direction, element_address, host_message, init_asked, notification_asked, page_asked, removal_asked, scsi_io_asked, task_asked};
 ghost use Rattle.mpt_messages.specs.Message.{MessageStands, message_fit, message_length};
 
-use crate::blank;
 use crate::frame::write_frame;
 use crate::message::Message;
-use crate::names::{Handle, Smid};
 use byteorder::{ByteOrder, LittleEndian};
 use config_pages::{ConfigAsk, PageForm, page_address};
 use event_msgs::{EventAck, EventAsk};
-use ioc_msgs::{IocInit, UnitControl};
+use ioc_msgs::{IocFacts, IocInit, PortEnable, PortFacts, UnitControl};
+use mpi_names::{
+    DATA_BUFFER_BYTES, DATA_BUFFERS, FRAME_DWORDS, FREE_RING_ENTRIES, Handle,
+    MPI2_CONFIG_ACTION_PAGE_READ_CURRENT, MPI2_CONFIG_EXTPAGETYPE_SAS_DEVICE,
+    MPI2_CONFIG_PAGETYPE_EXTENDED, MPI2_SAS_OP_REMOVE_DEVICE, MPI2_SASDEVICE0_PAGEVERSION,
+    MPI2_WHOINIT_HOST_DRIVER, POST_RING_ENTRIES, REPLY_FREE_QUEUE, REPLY_POST_QUEUE,
+    REQUEST_FRAMES, SAS_DEVICE_PAGE_0_BYTES, SAS_DEVICE_PAGE_0_DWORDS, SENSE_BUFFER_BYTES,
+    SENSE_BUFFERS, Smid,
+};
 use scsi_msgs::{ScsiIo, TaskAsk};
-
-// The address of the request frame of identifier 0; each frame has 128 bytes.
-const REQUEST_FRAMES: u64 = 0x0000_0001_0000_0000;
-
-// The address of the data buffer of identifier 0; each buffer has 4,096 bytes.
-const DATA_BUFFERS: u64 = 0x0000_0002_0000_0000;
-
-// The low half of the address of the sense buffer of identifier 0; each buffer has 96 bytes.
-const SENSE_BUFFERS: u32 = 0x0010_0000;
-
-// The address of the reply descriptor post queue.
-const REPLY_POST_QUEUE: u64 = 0x0000_0003_0000_0000;
-
-// The address of the reply free queue.
-const REPLY_FREE_QUEUE: u64 = 0x0000_0004_0000_0000;
 
 // The flags of a simple element of 64-bit address that ends list and buffer, for data to the host.
 const TO_HOST: u8 = 0xd3;
@@ -144,9 +135,9 @@ fn message_of(ask: &HostAsk) -> Message
         HostAsk::Remove { handle } => Message::UnitControl(remove(handle)),
         HostAsk::Ack { event, context } => Message::EventAck(ack(event, context)),
         HostAsk::Notification => Message::EventAsk(notification()),
-        HostAsk::PortEnable => Message::PortEnable(blank::PORT_ENABLE),
-        HostAsk::Facts => Message::IocFacts(blank::IOC_FACTS),
-        HostAsk::PortFacts => Message::PortFacts(blank::PORT_FACTS),
+        HostAsk::PortEnable => Message::PortEnable(PortEnable::BLANK),
+        HostAsk::Facts => Message::IocFacts(IocFacts::BLANK),
+        HostAsk::PortFacts => Message::PortFacts(PortFacts::BLANK),
         HostAsk::Init { queues } => Message::IocInit(init(queues)),
     }
 }
@@ -155,7 +146,7 @@ fn message_of(ask: &HostAsk) -> Message
 fn data_address(smid: Smid) -> u64
     ensures { result ≡ data_address smid }
 {
-    DATA_BUFFERS + 4096 * u64::from(smid)
+    DATA_BUFFERS + DATA_BUFFER_BYTES * u64::from(smid)
 }
 
 // ControlDirection: 0 no data, 1 write, 2 read.
@@ -206,9 +197,8 @@ fn scsi_io(
 {
     ScsiIo {
         dev_handle: handle,
-        sense_buffer_low_address: SENSE_BUFFERS + 96 * u32::from(smid),
-        sense_buffer_length: 96,
-        sgl_offset0: 24,
+        sense_buffer_low_address: SENSE_BUFFERS + SENSE_BUFFER_BYTES * u32::from(smid),
+        sense_buffer_length: SENSE_BUFFER_BYTES as u8,
         data_length: len,
         io_flags: u16::from(cdb_len),
         lun,
@@ -218,7 +208,7 @@ fn scsi_io(
         sge_length: len,
         sge_flags: if write { TO_CONTROLLER } else { TO_HOST },
         sge_address: element_address(smid, len),
-        ..blank::SCSI_IO
+        ..ScsiIo::BLANK
     }
 }
 
@@ -232,7 +222,7 @@ fn task(handle: Handle, task_type: u8, task_mid: Smid) -> TaskAsk
         dev_handle: handle,
         task_type,
         task_mid,
-        ..blank::TASK_ASK
+        ..TaskAsk::BLANK
     }
 }
 
@@ -243,16 +233,16 @@ fn page_read(smid: Smid, handle: Handle) -> ConfigAsk
     ensures fitting { IsTrue (values_fit config_ask_layout.rows (config_ask_values result)) }
 {
     ConfigAsk {
-        action: 1,
-        ext_page_length: 14,
-        ext_page_type: 0x12,
-        page_version: 8,
-        page_type: 0x0f,
+        action: MPI2_CONFIG_ACTION_PAGE_READ_CURRENT,
+        ext_page_length: SAS_DEVICE_PAGE_0_DWORDS,
+        ext_page_type: MPI2_CONFIG_EXTPAGETYPE_SAS_DEVICE,
+        page_version: MPI2_SASDEVICE0_PAGEVERSION,
+        page_type: MPI2_CONFIG_PAGETYPE_EXTENDED,
         page_address: page_address(PageForm::ByHandle, handle),
-        sge_length: 56,
+        sge_length: SAS_DEVICE_PAGE_0_BYTES,
         sge_flags: TO_HOST,
         sge_address: data_address(smid),
-        ..blank::CONFIG_ASK
+        ..ConfigAsk::BLANK
     }
 }
 
@@ -262,9 +252,9 @@ fn remove(handle: Handle) -> UnitControl
     ensures fitting { IsTrue (values_fit unit_control_layout.rows (unit_control_values result)) }
 {
     UnitControl {
-        operation: 0x0d,
+        operation: MPI2_SAS_OP_REMOVE_DEVICE,
         dev_handle: handle,
-        ..blank::UNIT_CONTROL
+        ..UnitControl::BLANK
     }
 }
 
@@ -276,7 +266,7 @@ fn ack(event: u16, context: u32) -> EventAck
     EventAck {
         event,
         event_context: context,
-        ..blank::EVENT_ACK
+        ..EventAck::BLANK
     }
 }
 
@@ -289,7 +279,7 @@ fn notification() -> EventAsk
         event_masks1: 0xffff_ffff,
         event_masks2: 0xffff_ffff,
         event_masks3: 0xffff_ffff,
-        ..blank::EVENT_ASK
+        ..EventAsk::BLANK
     }
 }
 
@@ -300,15 +290,14 @@ fn init(queues: u8) -> IocInit
     ensures fitting { IsTrue (values_fit ioc_init_layout.rows (ioc_init_values result)) }
 {
     IocInit {
-        who_init: 4,
-        msg_version: 0x0200,
+        who_init: MPI2_WHOINIT_HOST_DRIVER,
         host_msix_vectors: queues,
-        system_request_frame_size: 32,
-        reply_descriptor_post_queue_depth: 352,
-        reply_free_queue_depth: 80,
+        system_request_frame_size: FRAME_DWORDS,
+        reply_descriptor_post_queue_depth: POST_RING_ENTRIES as u16,
+        reply_free_queue_depth: FREE_RING_ENTRIES as u16,
         system_request_frame_base_address: REQUEST_FRAMES,
         reply_descriptor_post_queue_address: REPLY_POST_QUEUE,
         reply_free_queue_address: REPLY_FREE_QUEUE,
-        ..blank::IOC_INIT
+        ..IocInit::BLANK
     }
 }

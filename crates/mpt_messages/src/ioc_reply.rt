@@ -8,17 +8,24 @@ ghost use Rattle.ioc_msgs.specs.PortFactsReply.{port_facts_reply_layout, port_fa
 ghost use Rattle.ioc_msgs.specs.UnitControlReply.{unit_control_reply_layout, unit_control_reply_values};
 ghost use Rattle.config_pages.specs.ConfigReply.{config_reply_layout, config_reply_values};
 ghost use Rattle.event_msgs.specs.EventReply.{event_reply_fit};
-ghost use Rattle.mpt_messages.specs.IocFrames.{IsAnswer, ReplyStands, config_answered, facts_answered, plain_reply, port_answered, removal_answered, reply_frame, reply_length, scsi_answered, task_answered, topology_told};
+ghost use Rattle.mpt_messages.specs.IocFrames.{IsAnswer, ReplyStands, config_answered, facts_answered, notified, plain_reply, port_answered, removal_answered, reply_frame, reply_length, scsi_answered, task_answered, topology_told};
 
-use crate::blank;
 use crate::device_pages::expander_handle;
 use crate::frame::write_frame;
 use crate::message::Message;
-use crate::names::{Handle, Smid};
 use byteorder::{ByteOrder, LittleEndian};
 use config_pages::ConfigReply;
 use event_msgs::{EventData, EventReply, Topology, TopologyEntry};
 use ioc_msgs::{IocFactsReply, PortFactsReply, UnitControlReply};
+use mpi_names::{
+    DISK_HANDLES, EXPANDERS, FIRST_DISK_HANDLE, FRAME_DWORDS, HIGH_PRIORITY_SMIDS, Handle,
+    LAST_EXPANDER_HANDLE, MPI2_CONFIG_ACTION_PAGE_READ_CURRENT, MPI2_CONFIG_PAGETYPE_EXTENDED,
+    MPI2_EVENT_NOTIFICATION_ACK_REQUIRED, MPI2_EVENT_SAS_TOPO_ES_RESPONDING,
+    MPI2_EVENT_SAS_TOPO_RC_TARG_ADDED, MPI2_EVENT_SAS_TOPO_RC_TARG_NOT_RESPONDING,
+    MPI2_EVENT_SAS_TOPOLOGY_CHANGE_LIST, MPI2_SASDEVICE0_PAGEVERSION,
+    MPI2_SCSI_STATE_AUTOSENSE_VALID, MPI2_VERSION_02_00, POST_RING_ENTRIES,
+    SAS_DEVICE_PAGE_0_DWORDS, SMIDS, Smid,
+};
 use scsi_msgs::{ScsiReply, TaskReply};
 
 /// What the controller answers.
@@ -163,7 +170,7 @@ pub fn ioc_frame(reply: &IocReply, out: &mut [u8; 128]) -> usize
             &Message::UnitControlReply(removed(handle, operation, status)),
             out,
         ),
-        IocReply::Notified => write_frame(&Message::EventReply(blank::EVENT_REPLY), out),
+        IocReply::Notified => write_frame(&Message::EventReply(notified()), out),
         IocReply::Topology {
             context,
             handle,
@@ -205,12 +212,16 @@ fn scsi(
     ScsiReply {
         dev_handle: handle,
         scsi_status,
-        scsi_state: if sense == 0 { 0 } else { 1 },
+        scsi_state: if sense == 0 {
+            0
+        } else {
+            MPI2_SCSI_STATE_AUTOSENSE_VALID
+        },
         ioc_status: status,
         transfer_count: moved,
         sense_count: sense,
         task_tag: smid,
-        ..blank::SCSI_REPLY
+        ..ScsiReply::BLANK
     }
 }
 
@@ -225,7 +236,7 @@ fn task(handle: Handle, task_type: u8, status: u16, code: u8, count: u32) -> Tas
         task_type,
         ioc_status: status,
         termination_count: count,
-        ..blank::TASK_REPLY
+        ..TaskReply::BLANK
     }
 }
 
@@ -238,15 +249,15 @@ fn config(action: u8, ext_type: u8, status: u16) -> ConfigReply
         action,
         ext_page_type: ext_type,
         ioc_status: status,
-        ..blank::CONFIG_REPLY
+        ..ConfigReply::BLANK
     };
-    if action > 1 {
+    if action > MPI2_CONFIG_ACTION_PAGE_READ_CURRENT {
         return m;
     }
     ConfigReply {
-        ext_page_length: 14,
-        page_version: 8,
-        page_type: 0x0f,
+        ext_page_length: SAS_DEVICE_PAGE_0_DWORDS,
+        page_version: MPI2_SASDEVICE0_PAGEVERSION,
+        page_type: MPI2_CONFIG_PAGETYPE_EXTENDED,
         ..m
     }
 }
@@ -257,23 +268,23 @@ fn facts(who_init: u8, queues: u8) -> IocFactsReply
     ensures fitting { IsTrue (values_fit ioc_facts_reply_layout.rows (ioc_facts_reply_values result)) }
 {
     IocFactsReply {
-        msg_version: 0x0200,
+        msg_version: MPI2_VERSION_02_00,
         who_init,
         number_of_ports: 1,
         max_msix_vectors: queues,
-        request_credit: 280,
+        request_credit: SMIDS as u16,
         fw_version: 0x0100_0000,
-        ioc_request_frame_size: 32,
-        max_targets: 64,
-        max_sas_expanders: 16,
+        ioc_request_frame_size: FRAME_DWORDS,
+        max_targets: DISK_HANDLES as u16,
+        max_sas_expanders: EXPANDERS as u16,
         max_enclosures: 1,
         protocol_flags: 0x0002,
-        high_priority_credit: 8,
-        max_reply_descriptor_post_queue_depth: 352,
-        reply_frame_size: 32,
-        max_dev_handle: 0x0058,
-        min_dev_handle: 0x0009,
-        ..blank::IOC_FACTS_REPLY
+        high_priority_credit: HIGH_PRIORITY_SMIDS as u16,
+        max_reply_descriptor_post_queue_depth: POST_RING_ENTRIES as u16,
+        reply_frame_size: FRAME_DWORDS as u8,
+        max_dev_handle: LAST_EXPANDER_HANDLE,
+        min_dev_handle: FIRST_DISK_HANDLE,
+        ..IocFactsReply::BLANK
     }
 }
 
@@ -286,7 +297,7 @@ fn port_facts(port: u8, status: u16) -> PortFactsReply
         port_number: port,
         port_type: 0x30,
         ioc_status: status,
-        ..blank::PORT_FACTS_REPLY
+        ..PortFactsReply::BLANK
     }
 }
 
@@ -299,7 +310,17 @@ fn removed(handle: Handle, operation: u8, status: u16) -> UnitControlReply
         operation,
         dev_handle: handle,
         ioc_status: status,
-        ..blank::UNIT_CONTROL_REPLY
+        ..UnitControlReply::BLANK
+    }
+}
+
+// The answer to event notification.
+fn notified() -> EventReply
+    ensures { result ≡ notified }
+{
+    EventReply {
+        msg_length: 7,
+        ..EventReply::BLANK
     }
 }
 
@@ -316,17 +337,21 @@ fn topology(
     ensures said { result ≡ topology_told context handle expander phys phy added }
     ensures fitting { IsTrue (event_reply_fit result) }
 {
-    let mut entries = [blank::TOPOLOGY_ENTRY; 22];
+    let mut entries = [TopologyEntry::BLANK; 22];
     entries[0] = TopologyEntry {
         attached_dev_handle: handle,
-        phy_status: if added { 1 } else { 2 },
-        ..blank::TOPOLOGY_ENTRY
+        phy_status: if added {
+            MPI2_EVENT_SAS_TOPO_RC_TARG_ADDED
+        } else {
+            MPI2_EVENT_SAS_TOPO_RC_TARG_NOT_RESPONDING
+        },
+        ..TopologyEntry::BLANK
     };
     EventReply {
         event_data_length: 4,
         msg_length: 11,
-        ack_required: 1,
-        event: 0x001c,
+        ack_required: MPI2_EVENT_NOTIFICATION_ACK_REQUIRED,
+        event: MPI2_EVENT_SAS_TOPOLOGY_CHANGE_LIST,
         event_context: context,
         event_data: EventData::Topology(Topology {
             enclosure_handle: 1,
@@ -334,10 +359,10 @@ fn topology(
             num_phys: phys,
             num_entries: 1,
             start_phy_num: phy,
-            exp_status: 3,
+            exp_status: MPI2_EVENT_SAS_TOPO_ES_RESPONDING,
             entries,
-            ..blank::TOPOLOGY
+            ..Topology::BLANK
         }),
-        ..blank::EVENT_REPLY
+        ..EventReply::BLANK
     }
 }

@@ -144,91 +144,38 @@ pub fn list_text(alloc: Global, m: &Message) -> Result<Text, OutOfMemory>
     Ok(text)
 }
 
+// Adds the listing of a message that is its layout's rows and no more.
+macro_rules! list {
+    ($text:expr, $m:expr, $name:literal, $message:ident) => {
+        push_listing($text, $name, &$message::layout(), &$m.values())
+    };
+}
+
 // Adds the listing of the message.
 fn push_message(text: &mut Text, m: &Message) -> Result<(), OutOfMemory>
     ensures { OnOk result (text.new ≡ text.old ++ message_listing m.now) }
 {
     match m {
-        Message::ScsiIo(m) => push_listing(text, b"scsi-io", &ScsiIo::layout(), &m.values()),
-        Message::TaskAsk(m) => push_listing(text, b"task-mgmt", &TaskAsk::layout(), &m.values()),
-        Message::IocInit(m) => push_listing(text, b"ioc-init", &IocInit::layout(), &m.values()),
-        Message::IocFacts(m) => push_listing(text, b"ioc-facts", &IocFacts::layout(), &m.values()),
-        Message::ConfigAsk(m) => push_listing(text, b"config", &ConfigAsk::layout(), &m.values()),
-        Message::PortFacts(m) => push_listing(
-            text,
-            b"port-facts",
-            &PortFacts::layout(),
-            &m.values(),
-        ),
-        Message::PortEnable(m) => push_listing(
-            text,
-            b"port-enable",
-            &PortEnable::layout(),
-            &m.values(),
-        ),
-        Message::EventAsk(m) => push_listing(
-            text,
-            b"event-notification",
-            &EventAsk::layout(),
-            &m.values(),
-        ),
-        Message::EventAck(m) => push_listing(text, b"event-ack", &EventAck::layout(), &m.values()),
-        Message::UnitControl(m) => push_listing(
-            text,
-            b"sas-unit-control",
-            &UnitControl::layout(),
-            &m.values(),
-        ),
+        Message::ScsiIo(m) => list!(text, m, b"scsi-io", ScsiIo),
+        Message::TaskAsk(m) => list!(text, m, b"task-mgmt", TaskAsk),
+        Message::IocInit(m) => list!(text, m, b"ioc-init", IocInit),
+        Message::IocFacts(m) => list!(text, m, b"ioc-facts", IocFacts),
+        Message::ConfigAsk(m) => list!(text, m, b"config", ConfigAsk),
+        Message::PortFacts(m) => list!(text, m, b"port-facts", PortFacts),
+        Message::PortEnable(m) => list!(text, m, b"port-enable", PortEnable),
+        Message::EventAsk(m) => list!(text, m, b"event-notification", EventAsk),
+        Message::EventAck(m) => list!(text, m, b"event-ack", EventAck),
+        Message::UnitControl(m) => list!(text, m, b"sas-unit-control", UnitControl),
         Message::ScsiReply(m) => push_scsi_reply(text, m),
-        Message::TaskReply(m) => push_listing(
-            text,
-            b"task-mgmt-reply",
-            &TaskReply::layout(),
-            &m.values(),
-        ),
-        Message::IocInitReply(m) => push_listing(
-            text,
-            b"ioc-init-reply",
-            &IocInitReply::layout(),
-            &m.values(),
-        ),
-        Message::IocFactsReply(m) => push_listing(
-            text,
-            b"ioc-facts-reply",
-            &IocFactsReply::layout(),
-            &m.values(),
-        ),
-        Message::ConfigReply(m) => push_listing(
-            text,
-            b"config-reply",
-            &ConfigReply::layout(),
-            &m.values(),
-        ),
-        Message::PortFactsReply(m) => push_listing(
-            text,
-            b"port-facts-reply",
-            &PortFactsReply::layout(),
-            &m.values(),
-        ),
-        Message::PortEnableReply(m) => push_listing(
-            text,
-            b"port-enable-reply",
-            &PortEnableReply::layout(),
-            &m.values(),
-        ),
+        Message::TaskReply(m) => list!(text, m, b"task-mgmt-reply", TaskReply),
+        Message::IocInitReply(m) => list!(text, m, b"ioc-init-reply", IocInitReply),
+        Message::IocFactsReply(m) => list!(text, m, b"ioc-facts-reply", IocFactsReply),
+        Message::ConfigReply(m) => list!(text, m, b"config-reply", ConfigReply),
+        Message::PortFactsReply(m) => list!(text, m, b"port-facts-reply", PortFactsReply),
+        Message::PortEnableReply(m) => list!(text, m, b"port-enable-reply", PortEnableReply),
         Message::EventReply(m) => push_event(text, m),
-        Message::EventAckReply(m) => push_listing(
-            text,
-            b"event-ack-reply",
-            &EventAckReply::layout(),
-            &m.values(),
-        ),
-        Message::UnitControlReply(m) => push_listing(
-            text,
-            b"sas-unit-control-reply",
-            &UnitControlReply::layout(),
-            &m.values(),
-        ),
+        Message::EventAckReply(m) => list!(text, m, b"event-ack-reply", EventAckReply),
+        Message::UnitControlReply(m) => list!(text, m, b"sas-unit-control-reply", UnitControlReply),
     }
 }
 

@@ -1,5 +1,5 @@
 //! Reading a source to its end.
-ghost use Rattle.std.specs.Prelude.{◌≡◌, ◌↔◌, ℕ, ◌+◌, ◌<◌, ◌≤◌, List, false, ◌++◌, length, vec_len, IsTrue, IfOk, IfErr, IfSome, OnOk, IsErrOf};
+ghost use Rattle.std.specs.Prelude.{◌≡◌, ◌≢◌, ◌↔◌, ℕ, ◌+◌, ◌<◌, ◌≤◌, List, false, ◌++◌, length, vec_len, IsTrue, IfOk, IfErr, IfSome, OnOk, IsErrOf};
 ghost use Rattle.std.specs.Io.KnownBytes.{IsAtEnd};
 ghost use Rattle.mpt_outside.specs.Counts.{last_count, Rose, NeverFalls};
 ghost use Rattle.mpt_outside.specs.Reading.{Came, StoppedAfter};
@@ -16,9 +16,9 @@ const CHUNK: usize = 65_536;
 pub enum ReadFault {
     /// The source failed. Its count of faults rose.
     Failed,
-    /// One byte more than the limit came. Where the end lies isn't known.
+    /// One byte more than the limit came. Where the end lies isn't known. No call failed.
     TooLong,
-    /// The allocator had no memory left.
+    /// The allocator had no memory left. No call failed.
     OutOfMemory,
 }
 
@@ -70,6 +70,7 @@ pub fn read_all<S: Source>(
     // Of the source's faults.
     ensures failed { IsErrOf result ReadFault.Failed → Rose (S.faults source.old) (S.faults source.new) }
     ensures steady { OnOk result (S.faults source.new ≡ S.faults source.old) }
+    ensures spared { IfErr result (λ e. e ≢ ReadFault.Failed → S.faults source.new ≡ S.faults source.old) }
     ensures never_falls { NeverFalls (S.faults source.old) (S.faults source.new) }
 {
     let mut chunk = new_chunk(alloc)?;
@@ -102,6 +103,7 @@ fn read_piece<S: Source>(
         (S.given source.old) (S.given source.new) piece × StoppedAfter e limit (vec_len bytes.old + length piece)) }
     ensures failed { IsErrOf result ReadFault.Failed → Rose (S.faults source.old) (S.faults source.new) }
     ensures steady { OnOk result (S.faults source.new ≡ S.faults source.old) }
+    ensures spared { IfErr result (λ e. e ≢ ReadFault.Failed → S.faults source.new ≡ S.faults source.old) }
     ensures never_falls { NeverFalls (S.faults source.old) (S.faults source.new) }
 {
     let room = limit - bytes.len();

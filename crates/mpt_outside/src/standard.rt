@@ -1,5 +1,5 @@
 //! A source over a reader, and a sink over a writer, of the standard library: the trusted edge.
-ghost use Rattle.std.specs.Prelude.{◌≡◌, ℕ, None};
+ghost use Rattle.std.specs.Prelude.{◌≡◌, ℕ};
 
 use crate::counts::{count_on, one_more};
 use crate::errors::Failed;
@@ -8,7 +8,8 @@ use crate::source::Source;
 use std::io::{Read, Write};
 use std::marker::Model;
 
-/// Gives what a reader reads. It counts the bytes and the errors, and tells nothing of the bytes.
+/// Gives what a reader reads, and tells of the bytes what the reader tells. It counts the bytes and
+/// the errors.
 #[derive(Drop)]
 pub struct StdSource<R> {
     reader: R,
@@ -17,17 +18,17 @@ pub struct StdSource<R> {
 }
 
 impl<R> Model for StdSource<R> {
-    ghost use Rattle.mpt_outside.specs.Standard.{SourceCounts};
+    ghost use Rattle.mpt_outside.specs.Standard.{OverReader};
 
-    ghost Value = { SourceCounts };
+    ghost Value = { OverReader R };
 
-    ghost view = { λ s. record { given = s.given; faults = s.faults } };
+    ghost view = { λ s. record { reader = s.reader; given = s.given; faults = s.faults } };
 }
 
 impl<R: Read> StdSource<R> {
     /// A source over this reader.
     pub fn new(reader: R) -> StdSource<R>
-        ensures { result ≡ record { given = 0; faults = 0 } }
+        ensures { result ≡ record { reader = reader; given = 0; faults = 0 } }
     {
         StdSource {
             reader,
@@ -38,13 +39,13 @@ impl<R: Read> StdSource<R> {
 }
 
 impl<R: Read> Source for StdSource<R> {
-    ghost left = { λ _. None };
+    ghost left = { λ s. R.remaining s.reader };
 
     ghost given = { λ s. s.given };
 
     ghost faults = { λ s. s.faults };
 
-    /// Reads once. Each error of the reader is a fault.
+    /// Reads once. Each error of the reader is a fault, an interruption too: it is never the end.
     fn take(&mut self, buffer: &mut [u8]) -> Result<usize, Failed> {
         match self.reader.read(buffer) {
             Ok(count) => {
@@ -59,7 +60,7 @@ impl<R: Read> Source for StdSource<R> {
     }
 }
 
-/// Puts what it takes to a writer. It counts the errors, and tells nothing of the bytes.
+/// Puts what it takes to a writer, and tells of the bytes what the writer tells. It counts the errors.
 #[derive(Drop)]
 pub struct StdSink<W> {
     writer: W,
@@ -67,24 +68,24 @@ pub struct StdSink<W> {
 }
 
 impl<W> Model for StdSink<W> {
-    ghost use Rattle.mpt_outside.specs.Standard.{SinkCounts};
+    ghost use Rattle.mpt_outside.specs.Standard.{OverWriter};
 
-    ghost Value = { SinkCounts };
+    ghost Value = { OverWriter W };
 
-    ghost view = { λ s. record { faults = s.faults } };
+    ghost view = { λ s. record { writer = s.writer; faults = s.faults } };
 }
 
 impl<W: Write> StdSink<W> {
     /// A sink over this writer.
     pub fn new(writer: W) -> StdSink<W>
-        ensures { result ≡ record { faults = 0 } }
+        ensures { result ≡ record { writer = writer; faults = 0 } }
     {
         StdSink { writer, faults: 0 }
     }
 }
 
 impl<W: Write> Sink for StdSink<W> {
-    ghost taken = { λ _. None };
+    ghost taken = { λ s. W.contents s.writer };
 
     ghost faults = { λ s. s.faults };
 

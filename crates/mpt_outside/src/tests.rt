@@ -88,14 +88,14 @@ fn writes_the_whole(rt: HostRuntime) -> Result<(), Fail> {
     Ok(())
 }
 
-// A reader that gives its bytes, and then fails.
+// A reader that gives its bytes, and then fails in this way.
 #[derive(Drop)]
-struct Broken<'a>(&'a [u8]);
+struct Broken<'a>(&'a [u8], ErrorKind);
 
 impl Read for Broken<'_> {
     fn read(&mut self, buf: &mut [u8]) -> io::Result<usize> {
         if self.0.is_empty() && !buf.is_empty() {
-            return Err(io::Error::from(ErrorKind::BrokenPipe));
+            return Err(io::Error::from(self.1));
         }
         self.0.read(buf)
     }
@@ -107,9 +107,12 @@ fn reads_and_writes_over_std(rt: HostRuntime) -> Result<(), Fail> {
     let bytes = read_all(rt.alloc(), &mut source, 10).map_err(|_| "not read")?;
     assert_eq!(rt; bytes.as_slice(), TEXT.as_slice());
 
-    let mut broken = StdSource::new(Broken(TEXT));
-    let read = read_all(rt.alloc(), &mut broken, 10);
-    assert!(rt; matches!(&read, Err(ReadFault::Failed)));
+    // An interrupted read is no end either.
+    for kind in [ErrorKind::BrokenPipe, ErrorKind::Interrupted] {
+        let mut broken = StdSource::new(Broken(TEXT, kind));
+        let read = read_all(rt.alloc(), &mut broken, 10);
+        assert!(rt; matches!(&read, Err(ReadFault::Failed)));
+    }
 
     let mut written = Vec::new(rt.alloc());
     let mut sink = StdSink::new(&mut written);

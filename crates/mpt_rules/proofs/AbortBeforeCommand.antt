@@ -10,7 +10,7 @@ use Rattle.scsi_disk.specs.Operation.{operation_of}
 use Rattle.scsi_msgs.specs.ScsiIo.{scsi_io_layout, scsi_io_values}
 use Rattle.mpt_rules.specs.declared.request.Request.{Request}
 use Rattle.smid_pool.specs.Pool.{Free, Open, Slot, all_free, with_slot}
-use Rattle.mpt_rules.specs.HostReplies.{slot_after}
+use Rattle.mpt_rules.specs.Host.Replies.{slot_after}
 use Rattle.scsi_msgs.specs.TaskReply.{task_reply_layout, task_reply_values}
 use Rattle.scsi_msgs.specs.ScsiReply.{scsi_reply_layout, scsi_reply_values}
 use Rattle.scsi_msgs.specs.TaskAsk.{task_ask_layout, task_ask_values}
@@ -24,10 +24,10 @@ use Rattle.mpt_rules.specs.declared.post.Post.{Post}
 use Rattle.mpt_rules.specs.declared.request.Request.TheVariants as request
 use Rattle.std.proofs.Common.{ap}
 use Rattle.std.specs.Ordering.{nat_cmp}
-use Rattle.mpt_rules.specs.HostParts.{Host}
-use Rattle.mpt_rules.specs.HostInputs.{accepts}
-use Rattle.mpt_rules.specs.HostReturns.{has_frame}
-use Rattle.mpt_rules.specs.IocParts.{Ioc}
+use Rattle.mpt_rules.specs.Host.Parts.{Host}
+use Rattle.mpt_rules.specs.Host.Inputs.{with_accepted}
+use Rattle.mpt_rules.specs.Host.Returns.{with_frame_back}
+use Rattle.mpt_rules.specs.Ioc.Parts.{Ioc}
 use Rattle.std.specs.Prelude.{◌++◌}
 use Rattle.std.specs.List.{range_with_len}
 use Rattle.std.specs.FinSet as set
@@ -35,21 +35,21 @@ use Rattle.std.specs.FinSet.{FinSet}
 use Rattle.std.specs.Prelude.{◌+◌}
 use Rattle.mpt_rules.specs.declared.status.TheConstants.{IOC_STATUS_SUCCESS}
 use Rattle.mpt_rules.specs.declared.said.Said.{Said}
-use Rattle.mpt_rules.specs.World.{World}
-use Rattle.mpt_rules.specs.Cases.{Case, Chosen, Told}
+use Rattle.mpt_rules.specs.World.State.{World}
+use Rattle.mpt_rules.specs.World.Cases.{Case, Chosen, Told}
 use Rattle.mpt_rules.proofs.SchedulePieces.{Goes, answers, command_post, tells, took}
 use Rattle.mpt_rules.proofs.WorldExampleParts.{A, one_disk, submit, up_host, up_ioc}
-use Rattle.mpt_rules.specs.IocReplies.{framed, task_ended}
-use Rattle.mpt_rules.specs.HostParts.{Cmd}
+use Rattle.mpt_rules.specs.Ioc.Replies.{framed, task_ended}
+use Rattle.mpt_rules.specs.Host.Parts.{Cmd}
 use Rattle.std.specs.FinMap.{FinMap}
-use Rattle.mpt_trace.specs.Fields.{abort_task}
-use Rattle.mpt_rules.specs.HostInputs.{asks_abort}
-use Rattle.mpt_rules.specs.HostReplies.{takes_entry}
+use Rattle.mpt_wire.specs.Messages.Fields.{abort_task}
+use Rattle.mpt_rules.specs.Host.Inputs.{with_abort_asked}
+use Rattle.mpt_rules.specs.Host.Replies.{takes_entry}
 use Rattle.mpt_trace.specs.declared.outcome.AbortOutcome.TheVariants as abort
-use Rattle.mpt_rules.specs.IocReplies.{scsi_ended}
+use Rattle.mpt_rules.specs.Ioc.Replies.{scsi_ended}
 use Rattle.mpt_rules.specs.declared.status.TheConstants.{IOC_STATUS_SCSI_TASK_TERMINATED}
 use Rattle.mpt_trace.specs.declared.outcome.Outcome.{Outcome}
-use Rattle.mpt_rules.specs.HostReturns.{has_frame}
+use Rattle.mpt_rules.specs.Host.Returns.{with_frame_back}
 
 -- ---- the worlds of this schedule
 
@@ -94,7 +94,7 @@ world_of host ioc = record (one_disk 2) { host = host; ioc = ioc }
 
 -- the host has both open, and their posts in its outbox
 abbrev pub both_accepted : World
-both_accepted = world_of (accepts (accepts (up_host 2) 1 A (command_named form.Tur) 0x0009 1) 2 A (command_named write) 0x0009 2) (up_ioc 2)
+both_accepted = world_of (with_accepted (with_accepted (up_host 2) 1 A (command_named form.Tur) 0x0009 1) 2 A (command_named write) 0x0009 2) (up_ioc 2)
 
 -- each gets the next identifier
 pub commands_accepted : Goes (one_disk 2) (submit 1 A form.Tur ∷ submit 2 A write ∷ []) (entry.Accept 1 A 1 ∷ entry.Accept 2 A 2 ∷ []) both_accepted
@@ -122,7 +122,7 @@ commands_queued = record { shows = refl; leaves = refl }
 
 -- the host has the abort open, and its post in its outbox
 abbrev pub abort_open : World
-abort_open = record both_queued { host = asks_abort both_host 2 (cmd 2) 257 }
+abort_open = record both_queued { host = with_abort_asked both_host 2 (cmd 2) 257 }
 
 -- the abort is asked
 pub abort_asked : Goes both_queued (Told (input.Abort 2) ∷ []) [] abort_open
@@ -162,7 +162,7 @@ abort_answered = record { shows = refl; leaves = refl }
 
 -- a third command gets the next identifier
 abbrev pub third_open : World
-third_open = record abort_told { host = accepts abort_told.host 3 A (command_named form.Tur) 0x0009 3 }
+third_open = record abort_told { host = with_accepted abort_told.host 3 A (command_named form.Tur) 0x0009 3 }
 
 -- the identifier of the second command is not given
 pub open_isnt_given : Goes abort_told (submit 3 A form.Tur ∷ []) (entry.Accept 3 A 3 ∷ []) third_open
@@ -179,7 +179,7 @@ cmds_3 = map.remove (map.insert cmds_2 3 (cmd 3)) 2
 abbrev pub command_told : Slot Request → World
 command_told slot =
     world_of
-    (record (takes_entry (has_frame third_open.host 1) 1) {
+    (record (takes_entry (with_frame_back third_open.host 1) 1) {
       pool = with_slot 1 (Open (request.Command 1)) (with_slot 2 slot (with_slot 3 (Open (request.Command 3)) all_free));
       cmds = cmds_3;
     })
@@ -200,7 +200,7 @@ command_answered = record { shows = refl; leaves = ap (λ found. command_told (s
 
 -- a fourth command gets its identifier
 abbrev pub fourth_open : World
-fourth_open = record (command_told Free) { host = accepts (command_told Free).host 4 A (command_named form.Tur) 0x0009 2 }
+fourth_open = record (command_told Free) { host = with_accepted (command_told Free).host 4 A (command_named form.Tur) 0x0009 2 }
 
 -- the identifier is given again
 pub free_is_given : Goes (command_told Free) (submit 4 A form.Tur ∷ []) (entry.Accept 4 A 2 ∷ []) fourth_open

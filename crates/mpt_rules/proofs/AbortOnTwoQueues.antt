@@ -8,7 +8,7 @@ use Rattle.scsi_disk.specs.Operation.{operation_of}
 use Rattle.scsi_msgs.specs.ScsiIo.{scsi_io_layout, scsi_io_values}
 use Rattle.mpt_rules.specs.declared.request.Request.{Request}
 use Rattle.smid_pool.specs.Pool.{Free, Open, Slot, all_free, with_slot}
-use Rattle.mpt_rules.specs.HostReplies.{slot_after}
+use Rattle.mpt_rules.specs.Host.Replies.{slot_after}
 use Rattle.mpt_trace.specs.declared.choice.Choice.TheVariants as choice
 use Rattle.mpt_trace.specs.declared.command_form.CommandForm.TheVariants as form
 use Rattle.mpt_trace.specs.declared.entry.Entry.TheVariants as entry
@@ -22,14 +22,14 @@ use Rattle.std.specs.Prelude.{◌++◌}
 use Rattle.std.specs.List.{range_with_len}
 use Rattle.std.specs.FinSet as set
 use Rattle.std.specs.FinSet.{FinSet}
-use Rattle.mpt_rules.specs.World.{World}
-use Rattle.mpt_rules.specs.Cases.{Case, Chosen, Told}
+use Rattle.mpt_rules.specs.World.State.{World}
+use Rattle.mpt_rules.specs.World.Cases.{Case, Chosen, Told}
 use Rattle.mpt_rules.proofs.SchedulePieces.{Goes, and_then, answers, command_post, rounds, tells}
 use Rattle.mpt_rules.proofs.WorldExampleParts.{A, one_disk, submit, up_ioc}
-use Rattle.mpt_rules.specs.HostParts.{Cmd}
+use Rattle.mpt_rules.specs.Host.Parts.{Cmd}
 use Rattle.std.specs.FinMap.{FinMap}
 use Rattle.mpt_trace.specs.declared.outcome.AbortOutcome.TheVariants as abort
-use Rattle.mpt_rules.specs.HostReplies.{index_value}
+use Rattle.mpt_rules.specs.Host.Replies.{index_value}
 use Rattle.mpt_rules.proofs.SchedulePieces.{door_after}
 use Rattle.mpt_rules.proofs.AbortBeforeCommand.{write, good, cmd, accepted_2, host_with, world_of, commands_accepted, first_post, commands_queued, abort_asked, both_end, aborts_none, abort_answered, open_isnt_given, cmds_3, on_second, command_answered, fourth_open, free_is_given}
 

@@ -9,18 +9,18 @@ use Rattle.mpt_trace.specs.declared.entry.Entry.{Entry}
 use Rattle.mpt_trace.specs.declared.item.Back.{Back}
 use Rattle.mpt_trace.specs.declared.item.Down.{Down}
 use Rattle.mpt_trace.specs.declared.item.Down.TheVariants as down
-use Rattle.mpt_trace.specs.Ahead.{state_ahead}
-use Rattle.mpt_trace.specs.Bindings.{Plug, bound_next}
-use Rattle.mpt_trace.specs.Fields.{handle_in, kind_in, smid_in}
-use Rattle.mpt_trace.specs.MachineState.{OpenRequest}
-use Rattle.mpt_trace.specs.Passes.{state_after}
-use Rattle.mpt_trace.specs.View.{Seen, seen_next}
+use Rattle.mpt_wire.specs.Walks.Ahead.{state_ahead}
+use Rattle.mpt_wire.specs.Handles.Bindings.{Plug, bound_next}
+use Rattle.mpt_wire.specs.Messages.Fields.{handle_in, kind_in, smid_in}
+use Rattle.mpt_wire.specs.Machine.State.{OpenRequest}
+use Rattle.mpt_wire.specs.Walks.Passes.{state_after}
+use Rattle.mpt_wire.specs.Machine.View.{Seen, seen_next}
 use Rattle.mpt_rules.specs.declared.post.Post.{Post}
-use Rattle.mpt_rules.specs.Cases.{Case, Chosen, entries, happens, moves_or_idles}
-use Rattle.mpt_rules.specs.Fabric.{says_first}
-use Rattle.mpt_rules.specs.Lines.{normal_line}
-use Rattle.mpt_rules.specs.Moves.{fabric_says, host_puts}
-use Rattle.mpt_rules.specs.World.{World}
+use Rattle.mpt_rules.specs.World.Cases.{Case, Chosen, entries, happens, moves_or_idles}
+use Rattle.mpt_rules.specs.Fabric.Calls.{says_first}
+use Rattle.mpt_rules.specs.World.Lines.{normal_line}
+use Rattle.mpt_rules.specs.World.Moves.{fabric_says, host_puts}
+use Rattle.mpt_rules.specs.World.State.{World}
 use Rattle.mpt_rules.proofs.PutsKeepLines.{host_puts-normal_line}
 
 abbrev pub BoundToTarget : Seen → (ℕ → Option Plug) → World → Type 0

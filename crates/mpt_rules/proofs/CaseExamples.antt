@@ -15,12 +15,12 @@ use Rattle.mpt_trace.specs.declared.refusal.Refusal.TheVariants as refusal
 use Rattle.mpt_trace.specs.declared.refusal.RefusedCall.TheVariants as call
 use Rattle.scsi_disk.specs.Operation.{operation_of}
 use Rattle.scsi_msgs.specs.ScsiIo.{scsi_io_layout, scsi_io_values}
-use Rattle.mpt_rules.specs.HostDoorbell.{goes_on}
-use Rattle.mpt_rules.specs.World.{World, fresh}
-use Rattle.mpt_rules.specs.Cases.{Chosen, Told, run, trace, entries}
-use Rattle.mpt_rules.specs.Weight.{weight}
-use Rattle.mpt_rules.specs.Drain.{followed_by, drain_with, rounds_with, drain_rounds, world_quiet}
-use Rattle.mpt_rules.specs.Places.{SmidPlace, FramePlace, smid_place, frame_place}
+use Rattle.mpt_rules.specs.Host.Doorbell.{turn_from}
+use Rattle.mpt_rules.specs.World.State.{World, fresh}
+use Rattle.mpt_rules.specs.World.Cases.{Chosen, Told, run, trace, entries}
+use Rattle.mpt_rules.specs.World.Weight.{weight}
+use Rattle.mpt_rules.specs.World.Drain.{followed_by, drain_with, rounds_with, drain_rounds, world_quiet}
+use Rattle.mpt_rules.specs.World.Places.{SmidPlace, FramePlace, smid_place, frame_place}
 use Rattle.mpt_rules.proofs.WorldExampleParts.{A, B, answered, one_disk, plugged_disk, posted, submit, up_host}
 
 -- a world as it is made, with one disk of one block
@@ -35,7 +35,7 @@ first_read : trace made (Told input.Start ∷ Chosen choice.HostPut ∷ Chosen c
     ∷ entry.Put lane.Down (item.Down (down.Read 0)) ∷ entry.Take lane.Down (item.Down (down.Read 0))
     ∷ entry.Put lane.Up (item.Up (up.Value 0x10000000)) ∷ entry.Take lane.Up (item.Up (up.Value 0x10000000))
     ∷ entry.Idle choice.HostTake ∷ []
-unfolding goes_on
+unfolding turn_from
 first_read = refl
 
 -- there are no such queues, and no such task

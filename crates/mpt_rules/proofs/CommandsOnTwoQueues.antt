@@ -6,24 +6,24 @@ use Rattle.mpt_trace.specs.Command.{command_named}
 use Rattle.scsi_disk.specs.Operation.{operation_of}
 use Rattle.scsi_msgs.specs.ScsiIo.{scsi_io_layout, scsi_io_values}
 use Rattle.smid_pool.specs.Pool.{Open, all_free, with_slot}
-use Rattle.mpt_trace.specs.Fields.{success_descriptor}
+use Rattle.mpt_wire.specs.Messages.Fields.{success_descriptor}
 use Rattle.mpt_trace.specs.declared.choice.Choice.TheVariants as choice
 use Rattle.mpt_trace.specs.declared.command_form.CommandForm.TheVariants as form
 use Rattle.mpt_trace.specs.declared.entry.Entry.TheVariants as entry
 use Rattle.mpt_trace.specs.declared.item.Up.TheVariants as up
 use Rattle.mpt_rules.specs.declared.request.Request.TheVariants as request
-use Rattle.mpt_rules.specs.HostParts.{Host}
-use Rattle.mpt_rules.specs.HostInputs.{accepts}
-use Rattle.mpt_rules.specs.IocParts.{Ioc}
+use Rattle.mpt_rules.specs.Host.Parts.{Host}
+use Rattle.mpt_rules.specs.Host.Inputs.{with_accepted}
+use Rattle.mpt_rules.specs.Ioc.Parts.{Ioc}
 use Rattle.std.specs.Prelude.{◌++◌}
 use Rattle.std.specs.FinSet as set
-use Rattle.mpt_rules.specs.World.{World}
-use Rattle.mpt_rules.specs.Cases.{Case}
+use Rattle.mpt_rules.specs.World.State.{World}
+use Rattle.mpt_rules.specs.World.Cases.{Case}
 use Rattle.mpt_rules.proofs.SchedulePieces.{Goes, rounds, tells}
 use Rattle.mpt_rules.proofs.WorldExampleParts.{A, one_disk, submit, up_host, up_ioc}
 use Rattle.mpt_rules.specs.declared.at_fabric.AtFabric.TheVariants as at
-use Rattle.mpt_rules.specs.IocTables.{with_request}
-use Rattle.mpt_rules.specs.FabricParts.{Fabric}
+use Rattle.mpt_rules.specs.Ioc.Tables.{with_request}
+use Rattle.mpt_rules.specs.Fabric.Parts.{Fabric}
 use Rattle.mpi_doorbell.specs.DoorRegisters.{DoorRegisters}
 use Rattle.mpt_rules.proofs.SchedulePieces.{door_after}
 use Rattle.mpt_rules.proofs.WritesAtTheDisk.{fabric_with, two_cmds, writes}
@@ -61,7 +61,7 @@ second_reply = up.Reply (success_descriptor 2) None [] []
 -- the host has both open, and their posts in its outbox
 abbrev pub accepted_two : World
 accepted_two =
-    record (one_disk 2) { host = accepts (accepts (up_host 2) 1 A (command_named form.Tur) 0x0009 1) 2 A (command_named (writes 0x11)) 0x0009 2 }
+    record (one_disk 2) { host = with_accepted (with_accepted (up_host 2) 1 A (command_named form.Tur) 0x0009 1) 2 A (command_named (writes 0x11)) 0x0009 2 }
 
 -- a command for each queue
 abbrev pub submits : List Case

@@ -5,12 +5,12 @@ use Rattle.mpt_trace.specs.declared.item.Down.{Down}
 use Rattle.mpt_trace.specs.declared.item.Up.{Up}
 use Rattle.mpt_rules.specs.declared.post.Post.{Post}
 use Rattle.mpt_rules.specs.declared.said.Said.{Said}
-use Rattle.mpt_rules.specs.HostDoorbell.{begins_reset}
-use Rattle.mpt_rules.specs.IocTables.{is_post_of}
-use Rattle.mpt_rules.specs.IocPlaces.{is_reply_of}
-use Rattle.mpt_rules.specs.Places.{is_posted_as, is_return_of, is_in_frame}
-use Rattle.mpt_rules.specs.Weight.{is_read, is_said_value}
-use Rattle.mpt_rules.specs.Counts.{one_if, how_many, is_register_write, is_event, is_mark, is_mark_of, posts, returns, reads, register_writes, reset_writes, queued, replies, events, values, marks, marks_of, uses}
+use Rattle.mpt_rules.specs.Host.Doorbell.{is_reset_item}
+use Rattle.mpt_rules.specs.Ioc.Tables.{is_post_of}
+use Rattle.mpt_rules.specs.Ioc.Places.{is_reply_of}
+use Rattle.mpt_rules.specs.World.Places.{is_posted_as, is_return_of, is_in_frame}
+use Rattle.mpt_rules.specs.World.Weight.{is_read, is_said_value}
+use Rattle.mpt_rules.specs.World.Counts.{one_if, how_many, is_register_write, is_event, is_mark, is_mark_of, post_count, return_count, read_count, register_write_count, reset_write_count, queued_count, reply_count, event_count, value_count, mark_count, mark_count_of, use_count}
 
 pub how_many-append : {X : Type 0} (test : X → Bool) (xs ys : List X) → how_many test (xs ++ ys) ≡ how_many test xs + how_many test ys
 unfolding how_many
@@ -18,159 +18,159 @@ how_many-append test [] ys = omega arith
 how_many-append test (x ∷ xs) ys = let h = how_many-append test xs ys in omega (arith, h)
 
 -- the posts under an identifier
-pub posts-nil : (smid : ℕ) → posts smid [] ≡ 0
-unfolding posts how_many
-posts-nil smid = refl
+pub post_count-nil : (smid : ℕ) → post_count smid [] ≡ 0
+unfolding post_count how_many
+post_count-nil smid = refl
 
-pub posts-cons : (smid : ℕ) (x : Down) (xs : List Down) → posts smid (x ∷ xs) ≡ one_if (is_posted_as smid x) + posts smid xs
-unfolding posts how_many
-posts-cons smid x xs = refl
+pub post_count-cons : (smid : ℕ) (x : Down) (xs : List Down) → post_count smid (x ∷ xs) ≡ one_if (is_posted_as smid x) + post_count smid xs
+unfolding post_count how_many
+post_count-cons smid x xs = refl
 
-pub posts-append : (smid : ℕ) (xs ys : List Down) → posts smid (xs ++ ys) ≡ posts smid xs + posts smid ys
-unfolding posts
-posts-append smid xs ys = how_many-append (is_posted_as smid) xs ys
+pub post_count-append : (smid : ℕ) (xs ys : List Down) → post_count smid (xs ++ ys) ≡ post_count smid xs + post_count smid ys
+unfolding post_count
+post_count-append smid xs ys = how_many-append (is_posted_as smid) xs ys
 
 -- the returns of a reply frame
-pub returns-nil : (number : ℕ) → returns number [] ≡ 0
-unfolding returns how_many
-returns-nil number = refl
+pub return_count-nil : (number : ℕ) → return_count number [] ≡ 0
+unfolding return_count how_many
+return_count-nil number = refl
 
-pub returns-cons : (number : ℕ) (x : Down) (xs : List Down) → returns number (x ∷ xs) ≡ one_if (is_return_of number x) + returns number xs
-unfolding returns how_many
-returns-cons number x xs = refl
+pub return_count-cons : (number : ℕ) (x : Down) (xs : List Down) → return_count number (x ∷ xs) ≡ one_if (is_return_of number x) + return_count number xs
+unfolding return_count how_many
+return_count-cons number x xs = refl
 
-pub returns-append : (number : ℕ) (xs ys : List Down) → returns number (xs ++ ys) ≡ returns number xs + returns number ys
-unfolding returns
-returns-append number xs ys = how_many-append (is_return_of number) xs ys
+pub return_count-append : (number : ℕ) (xs ys : List Down) → return_count number (xs ++ ys) ≡ return_count number xs + return_count number ys
+unfolding return_count
+return_count-append number xs ys = how_many-append (is_return_of number) xs ys
 
 -- the register reads
-pub reads-nil : reads [] ≡ 0
-unfolding reads how_many
-reads-nil = refl
+pub read_count-nil : read_count [] ≡ 0
+unfolding read_count how_many
+read_count-nil = refl
 
-pub reads-cons : (x : Down) (xs : List Down) → reads (x ∷ xs) ≡ one_if (is_read x) + reads xs
-unfolding reads how_many
-reads-cons x xs = refl
+pub read_count-cons : (x : Down) (xs : List Down) → read_count (x ∷ xs) ≡ one_if (is_read x) + read_count xs
+unfolding read_count how_many
+read_count-cons x xs = refl
 
-pub reads-append : (xs ys : List Down) → reads (xs ++ ys) ≡ reads xs + reads ys
-unfolding reads
-reads-append xs ys = how_many-append is_read xs ys
+pub read_count-append : (xs ys : List Down) → read_count (xs ++ ys) ≡ read_count xs + read_count ys
+unfolding read_count
+read_count-append xs ys = how_many-append is_read xs ys
 
 -- the register writes, but that of the reply post index
-pub register_writes-nil : register_writes [] ≡ 0
-unfolding register_writes how_many
-register_writes-nil = refl
+pub register_write_count-nil : register_write_count [] ≡ 0
+unfolding register_write_count how_many
+register_write_count-nil = refl
 
-pub register_writes-cons : (x : Down) (xs : List Down) → register_writes (x ∷ xs) ≡ one_if (is_register_write x) + register_writes xs
-unfolding register_writes how_many
-register_writes-cons x xs = refl
+pub register_write_count-cons : (x : Down) (xs : List Down) → register_write_count (x ∷ xs) ≡ one_if (is_register_write x) + register_write_count xs
+unfolding register_write_count how_many
+register_write_count-cons x xs = refl
 
-pub register_writes-append : (xs ys : List Down) → register_writes (xs ++ ys) ≡ register_writes xs + register_writes ys
-unfolding register_writes
-register_writes-append xs ys = how_many-append is_register_write xs ys
+pub register_write_count-append : (xs ys : List Down) → register_write_count (xs ++ ys) ≡ register_write_count xs + register_write_count ys
+unfolding register_write_count
+register_write_count-append xs ys = how_many-append is_register_write xs ys
 
 -- the writes that begin a reset
-pub reset_writes-nil : reset_writes [] ≡ 0
-unfolding reset_writes how_many
-reset_writes-nil = refl
+pub reset_write_count-nil : reset_write_count [] ≡ 0
+unfolding reset_write_count how_many
+reset_write_count-nil = refl
 
-pub reset_writes-cons : (x : Down) (xs : List Down) → reset_writes (x ∷ xs) ≡ one_if (begins_reset x) + reset_writes xs
-unfolding reset_writes how_many
-reset_writes-cons x xs = refl
+pub reset_write_count-cons : (x : Down) (xs : List Down) → reset_write_count (x ∷ xs) ≡ one_if (is_reset_item x) + reset_write_count xs
+unfolding reset_write_count how_many
+reset_write_count-cons x xs = refl
 
-pub reset_writes-append : (xs ys : List Down) → reset_writes (xs ++ ys) ≡ reset_writes xs + reset_writes ys
-unfolding reset_writes
-reset_writes-append xs ys = how_many-append begins_reset xs ys
+pub reset_write_count-append : (xs ys : List Down) → reset_write_count (xs ++ ys) ≡ reset_write_count xs + reset_write_count ys
+unfolding reset_write_count
+reset_write_count-append xs ys = how_many-append is_reset_item xs ys
 
 -- the posts of a queue under an identifier
-pub queued-nil : (smid : ℕ) → queued smid [] ≡ 0
-unfolding queued how_many
-queued-nil smid = refl
+pub queued_count-nil : (smid : ℕ) → queued_count smid [] ≡ 0
+unfolding queued_count how_many
+queued_count-nil smid = refl
 
-pub queued-cons : (smid : ℕ) (x : Post) (xs : List Post) → queued smid (x ∷ xs) ≡ one_if (is_post_of smid x) + queued smid xs
-unfolding queued how_many
-queued-cons smid x xs = refl
+pub queued_count-cons : (smid : ℕ) (x : Post) (xs : List Post) → queued_count smid (x ∷ xs) ≡ one_if (is_post_of smid x) + queued_count smid xs
+unfolding queued_count how_many
+queued_count-cons smid x xs = refl
 
-pub queued-append : (smid : ℕ) (xs ys : List Post) → queued smid (xs ++ ys) ≡ queued smid xs + queued smid ys
-unfolding queued
-queued-append smid xs ys = how_many-append (is_post_of smid) xs ys
+pub queued_count-append : (smid : ℕ) (xs ys : List Post) → queued_count smid (xs ++ ys) ≡ queued_count smid xs + queued_count smid ys
+unfolding queued_count
+queued_count-append smid xs ys = how_many-append (is_post_of smid) xs ys
 
 -- the replies to an identifier
-pub replies-nil : (smid : ℕ) → replies smid [] ≡ 0
-unfolding replies how_many
-replies-nil smid = refl
+pub reply_count-nil : (smid : ℕ) → reply_count smid [] ≡ 0
+unfolding reply_count how_many
+reply_count-nil smid = refl
 
-pub replies-cons : (smid : ℕ) (x : Said) (xs : List Said) → replies smid (x ∷ xs) ≡ one_if (is_reply_of smid x) + replies smid xs
-unfolding replies how_many
-replies-cons smid x xs = refl
+pub reply_count-cons : (smid : ℕ) (x : Said) (xs : List Said) → reply_count smid (x ∷ xs) ≡ one_if (is_reply_of smid x) + reply_count smid xs
+unfolding reply_count how_many
+reply_count-cons smid x xs = refl
 
-pub replies-append : (smid : ℕ) (xs ys : List Said) → replies smid (xs ++ ys) ≡ replies smid xs + replies smid ys
-unfolding replies
-replies-append smid xs ys = how_many-append (is_reply_of smid) xs ys
+pub reply_count-append : (smid : ℕ) (xs ys : List Said) → reply_count smid (xs ++ ys) ≡ reply_count smid xs + reply_count smid ys
+unfolding reply_count
+reply_count-append smid xs ys = how_many-append (is_reply_of smid) xs ys
 
 -- the events
-pub events-nil : events [] ≡ 0
-unfolding events how_many
-events-nil = refl
+pub event_count-nil : event_count [] ≡ 0
+unfolding event_count how_many
+event_count-nil = refl
 
-pub events-cons : (x : Said) (xs : List Said) → events (x ∷ xs) ≡ one_if (is_event x) + events xs
-unfolding events how_many
-events-cons x xs = refl
+pub event_count-cons : (x : Said) (xs : List Said) → event_count (x ∷ xs) ≡ one_if (is_event x) + event_count xs
+unfolding event_count how_many
+event_count-cons x xs = refl
 
-pub events-append : (xs ys : List Said) → events (xs ++ ys) ≡ events xs + events ys
-unfolding events
-events-append xs ys = how_many-append is_event xs ys
+pub event_count-append : (xs ys : List Said) → event_count (xs ++ ys) ≡ event_count xs + event_count ys
+unfolding event_count
+event_count-append xs ys = how_many-append is_event xs ys
 
 -- the values of reads
-pub values-nil : values [] ≡ 0
-unfolding values how_many
-values-nil = refl
+pub value_count-nil : value_count [] ≡ 0
+unfolding value_count how_many
+value_count-nil = refl
 
-pub values-cons : (x : Said) (xs : List Said) → values (x ∷ xs) ≡ one_if (is_said_value x) + values xs
-unfolding values how_many
-values-cons x xs = refl
+pub value_count-cons : (x : Said) (xs : List Said) → value_count (x ∷ xs) ≡ one_if (is_said_value x) + value_count xs
+unfolding value_count how_many
+value_count-cons x xs = refl
 
-pub values-append : (xs ys : List Said) → values (xs ++ ys) ≡ values xs + values ys
-unfolding values
-values-append xs ys = how_many-append is_said_value xs ys
+pub value_count-append : (xs ys : List Said) → value_count (xs ++ ys) ≡ value_count xs + value_count ys
+unfolding value_count
+value_count-append xs ys = how_many-append is_said_value xs ys
 
 -- the marks of resets
-pub marks-nil : marks [] ≡ 0
-unfolding marks how_many
-marks-nil = refl
+pub mark_count-nil : mark_count [] ≡ 0
+unfolding mark_count how_many
+mark_count-nil = refl
 
-pub marks-cons : (x : Said) (xs : List Said) → marks (x ∷ xs) ≡ one_if (is_mark x) + marks xs
-unfolding marks how_many
-marks-cons x xs = refl
+pub mark_count-cons : (x : Said) (xs : List Said) → mark_count (x ∷ xs) ≡ one_if (is_mark x) + mark_count xs
+unfolding mark_count how_many
+mark_count-cons x xs = refl
 
-pub marks-append : (xs ys : List Said) → marks (xs ++ ys) ≡ marks xs + marks ys
-unfolding marks
-marks-append xs ys = how_many-append is_mark xs ys
+pub mark_count-append : (xs ys : List Said) → mark_count (xs ++ ys) ≡ mark_count xs + mark_count ys
+unfolding mark_count
+mark_count-append xs ys = how_many-append is_mark xs ys
 
 -- the marks of the reset of a generation
-pub marks_of-nil : (generation : ℕ) → marks_of generation [] ≡ 0
-unfolding marks_of how_many
-marks_of-nil generation = refl
+pub mark_count_of-nil : (generation : ℕ) → mark_count_of generation [] ≡ 0
+unfolding mark_count_of how_many
+mark_count_of-nil generation = refl
 
-pub marks_of-cons : (generation : ℕ) (x : Said) (xs : List Said) → marks_of generation (x ∷ xs) ≡ one_if (is_mark_of generation x) + marks_of generation xs
-unfolding marks_of how_many
-marks_of-cons generation x xs = refl
+pub mark_count_of-cons : (generation : ℕ) (x : Said) (xs : List Said) → mark_count_of generation (x ∷ xs) ≡ one_if (is_mark_of generation x) + mark_count_of generation xs
+unfolding mark_count_of how_many
+mark_count_of-cons generation x xs = refl
 
-pub marks_of-append : (generation : ℕ) (xs ys : List Said) → marks_of generation (xs ++ ys) ≡ marks_of generation xs + marks_of generation ys
-unfolding marks_of
-marks_of-append generation xs ys = how_many-append (is_mark_of generation) xs ys
+pub mark_count_of-append : (generation : ℕ) (xs ys : List Said) → mark_count_of generation (xs ++ ys) ≡ mark_count_of generation xs + mark_count_of generation ys
+unfolding mark_count_of
+mark_count_of-append generation xs ys = how_many-append (is_mark_of generation) xs ys
 
 -- the replies in a reply frame
-pub uses-nil : (number : ℕ) → uses number [] ≡ 0
-unfolding uses how_many
-uses-nil number = refl
+pub use_count-nil : (number : ℕ) → use_count number [] ≡ 0
+unfolding use_count how_many
+use_count-nil number = refl
 
-pub uses-cons : (number : ℕ) (x : Up) (xs : List Up) → uses number (x ∷ xs) ≡ one_if (is_in_frame number x) + uses number xs
-unfolding uses how_many
-uses-cons number x xs = refl
+pub use_count-cons : (number : ℕ) (x : Up) (xs : List Up) → use_count number (x ∷ xs) ≡ one_if (is_in_frame number x) + use_count number xs
+unfolding use_count how_many
+use_count-cons number x xs = refl
 
-pub uses-append : (number : ℕ) (xs ys : List Up) → uses number (xs ++ ys) ≡ uses number xs + uses number ys
-unfolding uses
-uses-append number xs ys = how_many-append (is_in_frame number) xs ys
+pub use_count-append : (number : ℕ) (xs ys : List Up) → use_count number (xs ++ ys) ≡ use_count number xs + use_count number ys
+unfolding use_count
+use_count-append number xs ys = how_many-append (is_in_frame number) xs ys
 
-pub ruleset counts = (posts-nil, posts-cons, posts-append, returns-nil, returns-cons, returns-append, reads-nil, reads-cons, reads-append, register_writes-nil, register_writes-cons, register_writes-append, reset_writes-nil, reset_writes-cons, reset_writes-append, queued-nil, queued-cons, queued-append, replies-nil, replies-cons, replies-append, events-nil, events-cons, events-append, values-nil, values-cons, values-append, marks-nil, marks-cons, marks-append, marks_of-nil, marks_of-cons, marks_of-append, uses-nil, uses-cons, uses-append)
+pub ruleset counts = (post_count-nil, post_count-cons, post_count-append, return_count-nil, return_count-cons, return_count-append, read_count-nil, read_count-cons, read_count-append, register_write_count-nil, register_write_count-cons, register_write_count-append, reset_write_count-nil, reset_write_count-cons, reset_write_count-append, queued_count-nil, queued_count-cons, queued_count-append, reply_count-nil, reply_count-cons, reply_count-append, event_count-nil, event_count-cons, event_count-append, value_count-nil, value_count-cons, value_count-append, mark_count-nil, mark_count-cons, mark_count-append, mark_count_of-nil, mark_count_of-cons, mark_count_of-append, use_count-nil, use_count-cons, use_count-append)

@@ -12,14 +12,14 @@ use Rattle.removal.specs.Handles.{all_absent, phase_at, with_phase}
 use Rattle.mpt_trace.specs.declared.entry.Entry.TheVariants as entry
 use Rattle.mpt_trace.specs.declared.item.Up.{Up}
 use Rattle.mpt_trace.specs.declared.outcome.Outcome.TheVariants as outcome
-use Rattle.mpt_trace.specs.Fields.{changes_from, reply_frame_address}
+use Rattle.mpt_wire.specs.Messages.Fields.{changes_from, reply_frame_address}
 use Rattle.mpt_rules.specs.declared.host_frame.HostFrame.TheVariants.{Held, Away}
 use Rattle.mpt_rules.specs.declared.request.Request.TheVariants as request
 use Rattle.mpt_rules.specs.Outcome.{Called}
 use Rattle.mpt_rules.specs.declared.why.Why.{Why}
-use Rattle.mpt_rules.specs.HostParts.{Host}
-use Rattle.mpt_rules.specs.HostRemoval.{first_not_absent, hears_changes}
-use Rattle.mpt_rules.specs.Host.{takes_up}
+use Rattle.mpt_rules.specs.Host.Parts.{Host}
+use Rattle.mpt_rules.specs.Host.Removal.{first_not_absent, hears_changes}
+use Rattle.mpt_rules.specs.Host.Takes.{takes_up}
 use Rattle.mpt_rules.proofs.HostUp.{changed, disk, host_up, posted, puts_of, resetting, returned, says, succeeds, with_open, with_open_in, wrote}
 
 -- an item comes on the first queue

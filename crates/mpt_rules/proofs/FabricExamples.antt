@@ -7,9 +7,9 @@ use Rattle.mpt_trace.specs.Command.{command_named}
 use Rattle.mpt_trace.specs.declared.command_form.CommandForm.TheVariants as form
 use Rattle.mpt_trace.specs.declared.item.Out.TheVariants as out
 use Rattle.mpt_trace.specs.declared.item.Back.TheVariants as back
-use Rattle.mpt_rules.specs.FabricParts.{Fabric, new_fabric}
-use Rattle.mpt_rules.specs.FabricDisks.{places_from}
-use Rattle.mpt_rules.specs.Fabric.{PlugRefusal, plugs, unplugs, takes_out, runs, says, oldest}
+use Rattle.mpt_rules.specs.Fabric.Parts.{Fabric, new_fabric}
+use Rattle.mpt_rules.specs.Fabric.Disks.{places_from}
+use Rattle.mpt_rules.specs.Fabric.Calls.{PlugRefusal, fabric_plugs, fabric_unplugs, takes_out, runs, announces, oldest}
 
 abbrev A : ℕ
 A = 0x5000c50000000001
@@ -23,7 +23,7 @@ made = new_fabric (record { address = A; blocks = 1 } ∷ record { address = B; 
 
 -- both disks are plugged, the second in front of the first
 abbrev plugged : Fabric
-plugged = (plugs (plugs made A 1 1).part B 0 0).part
+plugged = (fabric_plugs (fabric_plugs made A 1 1).part B 0 0).part
 
 abbrev found : Fabric
 found = takes_out plugged out.Discover
@@ -34,25 +34,25 @@ unfolding places_from
 found_in_order = refl
 
 -- the causes of a refused plug, in their order
-no_such_disk : (plugs plugged 7 5 5).answer ≡ Some PlugRefusal.NoSuchDisk
+no_such_disk : (fabric_plugs plugged 7 5 5).answer ≡ Some PlugRefusal.NoSuchDisk
 no_such_disk = refl
 
-no_such_phy : (plugs plugged A 0 1).answer ≡ Some PlugRefusal.NoSuchPhy
+no_such_phy : (fabric_plugs plugged A 0 1).answer ≡ Some PlugRefusal.NoSuchPhy
 no_such_phy = refl
 
-no_such_expander : (plugs plugged A 2 0).answer ≡ Some PlugRefusal.NoSuchPhy
+no_such_expander : (fabric_plugs plugged A 2 0).answer ≡ Some PlugRefusal.NoSuchPhy
 no_such_expander = refl
 
-occupied : (plugs plugged A 1 1).answer ≡ Some PlugRefusal.Occupied
+occupied : (fabric_plugs plugged A 1 1).answer ≡ Some PlugRefusal.Occupied
 occupied = refl
 
-already_plugged : (plugs plugged A 1 0).answer ≡ Some PlugRefusal.AlreadyPlugged
+already_plugged : (fabric_plugs plugged A 1 0).answer ≡ Some PlugRefusal.AlreadyPlugged
 already_plugged = refl
 
-plugs_spent : (plugs (record made { disks = record { address = A; bytes = []; at = None; plugs = 100000 } ∷ [] }) A 0 0).answer ≡ Some PlugRefusal.PlugsSpent
+plugs_spent : (fabric_plugs (record made { disks = record { address = A; bytes = []; at = None; plugs = 100000 } ∷ [] }) A 0 0).answer ≡ Some PlugRefusal.PlugsSpent
 plugs_spent = refl
 
-not_plugged : (unplugs made A).answer ≡ Some PlugRefusal.NotPlugged
+not_plugged : (fabric_unplugs made A).answer ≡ Some PlugRefusal.NotPlugged
 not_plugged = refl
 
 -- while the fabric is off, nobody is told of a plug
@@ -79,7 +79,7 @@ off_has_no_tasks : (takes_out plugged (out.Task 1 A tur)).out ≡ back.Gone 1 �
 off_has_no_tasks = refl
 
 -- an unplugged disk's tasks are gone, those of others stay, and a notice is made
-unplugged_with_tasks : (unplugs busy A).part ≡ record busy {
+unplugged_with_tasks : (fabric_unplugs busy A).part ≡ record busy {
   disks = record { address = A; bytes = replicate 512 0; at = None; plugs = 1 } ∷ record { address = B; bytes = replicate 512 0; at = Some (record { expander = 0; phy = 0 }); plugs = 1 } ∷ [];
   tasks = record { tag = 3; address = B; command = tur } ∷ [];
   notices = back.Unplugged A 1 1 1 ∷ [];
@@ -89,7 +89,7 @@ unfolding places_from
 unplugged_with_tasks = refl
 
 -- a notice waits until it is said
-said_when_asked : option_map (λ (f : Fabric). f.out) (says (unplugs busy A).part) ≡ Some (back.Gone 1 ∷ back.Gone 2 ∷ back.Unplugged A 1 1 1 ∷ [])
+said_when_asked : option_map (λ (f : Fabric). f.out) (announces (fabric_unplugs busy A).part) ≡ Some (back.Gone 1 ∷ back.Gone 2 ∷ back.Unplugged A 1 1 1 ∷ [])
 unfolding places_from
 said_when_asked = refl
 

@@ -3,11 +3,11 @@ use Rattle.std.proofs.Common.{◌≡◌, List, [], ◌∷◌, None, refl}
 use Rattle.std.specs.Prelude.{ℕ}
 use Rattle.std.specs.FinMap as map
 use Rattle.mpi_layout.specs.Rows.{field}
-use Rattle.mpt_trace.specs.Fields.{topology_change_list}
+use Rattle.mpt_wire.specs.Messages.Fields.{topology_change_list}
 use Rattle.std.proofs.Common.{◌∙◌}
 use Rattle.mpt_rules.specs.declared.request.Request.{Request}
 use Rattle.smid_pool.specs.Pool.{Free, Open, Slot, all_free, with_slot}
-use Rattle.mpt_rules.specs.HostReplies.{slot_after}
+use Rattle.mpt_rules.specs.Host.Replies.{slot_after}
 use Rattle.std.specs.FinMap.{get-empty}
 use Rattle.scsi_msgs.specs.ScsiReply.{scsi_reply_layout, scsi_reply_values}
 use Rattle.event_msgs.specs.EventAckReply.{event_ack_reply_layout, event_ack_reply_values}
@@ -19,14 +19,14 @@ use Rattle.mpt_trace.specs.declared.outcome.Outcome.TheVariants as outcome
 use Rattle.mpt_rules.specs.declared.binding.Binding.TheVariants as binding
 use Rattle.mpt_rules.specs.declared.post.Post.{Post}
 use Rattle.mpt_rules.specs.declared.request.Request.TheVariants as request
-use Rattle.mpt_rules.specs.FabricParts.{FabricDisk}
+use Rattle.mpt_rules.specs.Fabric.Parts.{FabricDisk}
 use Rattle.std.proofs.Common.{ap, true}
 use Rattle.std.specs.Ordering.{nat_cmp}
-use Rattle.mpt_rules.specs.IocBindings.{tells_change}
-use Rattle.mpt_rules.specs.HostParts.{Host}
-use Rattle.mpt_rules.specs.IocParts.{Ioc}
-use Rattle.mpt_rules.specs.IocReplies.{framed}
-use Rattle.mpt_rules.specs.IocTables.{with_binding}
+use Rattle.mpt_rules.specs.Ioc.Bindings.{tells_change}
+use Rattle.mpt_rules.specs.Host.Parts.{Host}
+use Rattle.mpt_rules.specs.Ioc.Parts.{Ioc}
+use Rattle.mpt_rules.specs.Ioc.Replies.{framed}
+use Rattle.mpt_rules.specs.Ioc.Tables.{with_binding}
 use Rattle.std.specs.Prelude.{◌++◌}
 use Rattle.std.specs.FinSet as set
 use Rattle.std.specs.FinSet.{FinSet}
@@ -35,8 +35,8 @@ use Rattle.removal.specs.Handles.{all_absent, with_phase}
 use Rattle.removal.specs.declared.phase.Phase.TheVariants as phase
 use Rattle.mpt_messages.specs.declared.ioc_reply.IocReply.TheVariants as reply
 use Rattle.mpt_rules.specs.declared.said.Said.{Said}
-use Rattle.mpt_rules.specs.World.{World}
-use Rattle.mpt_rules.specs.Cases.{Case, Told}
+use Rattle.mpt_rules.specs.World.State.{World}
+use Rattle.mpt_rules.specs.World.Cases.{Case, Told}
 use Rattle.mpt_rules.proofs.HandleRemoved.{handle_free, three_open}
 use Rattle.mpt_rules.proofs.SchedulePieces.{Goes, ack_reply, answers, host_at, ioc_at, removal_reply, rounds, tells}
 use Rattle.mpt_rules.proofs.WorldExampleParts.{A, B, plugged_disk, up_fabric, up_host, up_world}

@@ -5,7 +5,7 @@ use Rattle.std.specs.FinSet.{members}
 use Rattle.mpi_layout.specs.Rows.{field}
 use Rattle.mpt_messages.specs.declared.host_ask.HostAsk.TheVariants as ask
 use Rattle.mpt_trace.specs.Command.{command_named}
-use Rattle.mpt_trace.specs.Fields.{changes_from, remove_device, topology_change_list}
+use Rattle.mpt_wire.specs.Messages.Fields.{changes_from, remove_device, topology_change_list}
 use Rattle.event_msgs.specs.EventAck.{event_ack_layout, event_ack_values}
 use Rattle.event_msgs.specs.EventReply.{event_reply_layout, event_reply_values}
 use Rattle.event_msgs.specs.Topology.{topology_layout, topology_values}
@@ -23,17 +23,17 @@ use Rattle.mpt_trace.specs.declared.input.Input.TheVariants as input
 use Rattle.mpt_rules.specs.declared.binding.Binding.TheVariants as binding
 use Rattle.mpt_rules.specs.declared.post.Post.{Post}
 use Rattle.mpt_rules.specs.declared.request.Request.TheVariants as request
-use Rattle.mpt_rules.specs.FabricParts.{FabricDisk}
+use Rattle.mpt_rules.specs.Fabric.Parts.{FabricDisk}
 use Rattle.std.proofs.Common.{ap}
 use Rattle.std.specs.FinSet.{contains-insert}
 use Rattle.std.specs.Cmp.{nat_cmp_total}
-use Rattle.mpt_rules.specs.IocRequests.{ends_plainly}
-use Rattle.mpt_rules.specs.HostParts.{Host}
-use Rattle.mpt_rules.specs.HostInputs.{accepts}
-use Rattle.mpt_rules.specs.HostPosts.{asks_internal}
-use Rattle.mpt_rules.specs.HostRemoval.{begins_removal, first_not_absent, hears_changes, left}
-use Rattle.mpt_rules.specs.IocReplies.{answers as answers_on, scsi_ended}
-use Rattle.mpt_rules.specs.IocTables.{with_binding}
+use Rattle.mpt_rules.specs.Ioc.Requests.{ends_plainly}
+use Rattle.mpt_rules.specs.Host.Parts.{Host}
+use Rattle.mpt_rules.specs.Host.Inputs.{with_accepted}
+use Rattle.mpt_rules.specs.Host.Posts.{asks_internal}
+use Rattle.mpt_rules.specs.Host.Removal.{begins_removal, first_not_absent, hears_changes, left}
+use Rattle.mpt_rules.specs.Ioc.Replies.{ioc_answers as answers_on, scsi_ended}
+use Rattle.mpt_rules.specs.Ioc.Tables.{with_binding}
 use Rattle.std.specs.Prelude.{◌++◌}
 use Rattle.std.specs.List.{range_with_len}
 use Rattle.std.specs.FinSet as set
@@ -43,8 +43,8 @@ use Rattle.mpt_messages.specs.declared.function.Function.TheVariants as function
 use Rattle.mpt_messages.specs.Function.{byte_of}
 use Rattle.mpt_rules.specs.declared.status.TheConstants.{IOC_STATUS_SUCCESS, IOC_STATUS_SCSI_DEVICE_NOT_THERE}
 use Rattle.mpt_rules.specs.declared.said.Said.{Said}
-use Rattle.mpt_rules.specs.World.{World}
-use Rattle.mpt_rules.specs.Cases.{Case, Chosen, Told}
+use Rattle.mpt_rules.specs.World.State.{World}
+use Rattle.mpt_rules.specs.World.Cases.{Case, Chosen, Told}
 use Rattle.mpt_rules.proofs.SchedulePieces.{Goes, ack_post, acked, and_then, command_post, default_post, rounds, tells, told, took}
 use Rattle.mpt_rules.proofs.WorldExampleParts.{A, B, plugged_disk, spare_disk, submit, up_fabric, up_host, up_ioc, up_world}
 
@@ -68,7 +68,7 @@ three_open =
     let host : Host = up_host 1 in
     record (up_world disks 1) {
       host =
-          accepts (accepts (accepts host 1 A (command_named (writes 0x11)) 0x0009 1) 2 A (command_named (writes 0x22)) 0x0009 2)
+          with_accepted (with_accepted (with_accepted host 1 A (command_named (writes 0x11)) 0x0009 1) 2 A (command_named (writes 0x22)) 0x0009 2)
           3 A (command_named (writes 0x33)) 0x0009 3;
     }
 

@@ -11,14 +11,14 @@ use Rattle.mpi_doorbell.specs.declared.registers.TheConstants.{HOST_INTERRUPT_ST
 use Rattle.mpi_doorbell.specs.declared.state.IocState.TheVariants as state
 use Rattle.mpt_trace.specs.declared.choice.Choice.TheVariants as choice
 use Rattle.mpt_trace.specs.declared.item.Down.TheVariants as down
-use Rattle.mpt_rules.specs.HostDoorbell.{begins_init, begins_port_facts, goes_on}
-use Rattle.mpt_rules.specs.HostParts.{Host}
-use Rattle.mpt_rules.specs.HostValues.{begins_messages}
-use Rattle.mpt_rules.specs.World.{World}
-use Rattle.mpt_rules.specs.Cases.{Case}
+use Rattle.mpt_rules.specs.Host.Doorbell.{begins_init, begins_port_facts, turn_from}
+use Rattle.mpt_rules.specs.Host.Parts.{Host}
+use Rattle.mpt_rules.specs.Host.Values.{begins_messages}
+use Rattle.mpt_rules.specs.World.State.{World}
+use Rattle.mpt_rules.specs.World.Cases.{Case}
 use Rattle.mpt_rules.proofs.ResetInMidFlight.{restarting}
 use Rattle.mpt_rules.proofs.ResetOnTwoQueues.{restarting_on_two}
-use Rattle.mpt_rules.specs.IocParts.{Ioc}
+use Rattle.mpt_rules.specs.Ioc.Parts.{Ioc}
 use Rattle.mpt_rules.specs.declared.stage.Stage.TheVariants as stage
 use Rattle.std.proofs.Common.{None}
 use Rattle.mpt_rules.proofs.SchedulePieces.{Goes, rounds}
@@ -57,32 +57,32 @@ init_done w = record w { host = begins_messages (ended w.host); ioc = initialize
 
 -- the facts are those that the host wants
 pub ioc_facts : Goes restarting (talks 110) [] (facts_done restarting)
-unfolding field goes_on ioc_facts_layout ioc_facts_values ioc_facts_reply_layout ioc_facts_reply_values port_facts_layout port_facts_values
+unfolding field turn_from ioc_facts_layout ioc_facts_values ioc_facts_reply_layout ioc_facts_reply_values port_facts_layout port_facts_values
 ioc_facts = record { shows = refl; leaves = refl }
 
 -- there is the port 0
 pub port_facts : Goes (facts_done restarting) (talks 57) [] (port_facts_done restarting)
-unfolding field goes_on port_facts_layout port_facts_values port_facts_reply_layout port_facts_reply_values ioc_init_layout ioc_init_values
+unfolding field turn_from port_facts_layout port_facts_values port_facts_reply_layout port_facts_reply_values ioc_init_layout ioc_init_values
 port_facts = record { shows = refl; leaves = refl }
 
 -- IOC Init succeeds
 pub ioc_init : Goes (port_facts_done restarting) (talks 75) [] (init_done restarting)
-unfolding field goes_on ioc_init_layout ioc_init_values ioc_init_reply_layout ioc_init_reply_values
+unfolding field turn_from ioc_init_layout ioc_init_values ioc_init_reply_layout ioc_init_reply_values
 ioc_init = record { shows = refl; leaves = refl }
 
 -- ---- with two
 
 -- the facts are those that the host wants
 pub ioc_facts_on_two : Goes restarting_on_two (talks 110) [] (facts_done restarting_on_two)
-unfolding field goes_on ioc_facts_layout ioc_facts_values ioc_facts_reply_layout ioc_facts_reply_values port_facts_layout port_facts_values
+unfolding field turn_from ioc_facts_layout ioc_facts_values ioc_facts_reply_layout ioc_facts_reply_values port_facts_layout port_facts_values
 ioc_facts_on_two = record { shows = refl; leaves = refl }
 
 -- there is the port 0
 pub port_facts_on_two : Goes (facts_done restarting_on_two) (talks 57) [] (port_facts_done restarting_on_two)
-unfolding field goes_on port_facts_layout port_facts_values port_facts_reply_layout port_facts_reply_values ioc_init_layout ioc_init_values
+unfolding field turn_from port_facts_layout port_facts_values port_facts_reply_layout port_facts_reply_values ioc_init_layout ioc_init_values
 port_facts_on_two = record { shows = refl; leaves = refl }
 
 -- IOC Init asks for both queues, and succeeds
 pub ioc_init_on_two : Goes (port_facts_done restarting_on_two) (talks 75) [] (init_done restarting_on_two)
-unfolding field goes_on ioc_init_layout ioc_init_values ioc_init_reply_layout ioc_init_reply_values
+unfolding field turn_from ioc_init_layout ioc_init_values ioc_init_reply_layout ioc_init_reply_values
 ioc_init_on_two = record { shows = refl; leaves = refl }

@@ -15,7 +15,7 @@ use Rattle.mpi_doorbell.specs.HostDoor.{HostDoor, Stepped, finishes, reads, refu
 use Rattle.mpi_doorbell.specs.HostHandshake.{hears_end, is_bad_length, is_whole, opens, sends, takes_word, with_word}
 use Rattle.mpi_doorbell.specs.HostReset.{hears_state, without, writes_key}
 use Rattle.mpi_doorbell.specs.HostSteps.{acts, hears, hears_reading}
-use Rattle.mpt_rules.specs.HostDoorbell.{goes_on, most_writes, turn_of}
+use Rattle.mpt_rules.specs.Host.Doorbell.{turn_from, most_writes, next_turn}
 
 -- the step is no write
 abbrev pub IsNoWrite : DoorStep → Type 0
@@ -26,7 +26,7 @@ IsNoWrite (step.Refused at value) = Unit {0}
 
 -- the turn from here on ends
 abbrev pub Ends : Stepped → Type 0
-Ends s = IsNoWrite (goes_on most_writes s.door s.step).step
+Ends s = IsNoWrite (turn_from most_writes s.door s.step).step
 
 ends_if : (b : Bool) (s t : Stepped) → Ends s → Ends t → Ends (if b then s else t)
 ends_if true s t p q = p
@@ -34,7 +34,7 @@ ends_if false s t p q = q
 
 -- the keys: from each place on, and with none left
 key_ends : (d : HostDoor) (place : ℕ) → Ends (writes_key d place)
-unfolding goes_on
+unfolding turn_from
 key_ends d zero = tt
 key_ends d (suc zero) = tt
 key_ends d (suc (suc zero)) = tt
@@ -45,7 +45,7 @@ key_ends d (suc (suc (suc (suc (suc (suc zero)))))) = tt
 key_ends d (suc (suc (suc (suc (suc (suc (suc place))))))) = tt
 
 acts_ends : (d : HostDoor) (stage : Stage) → Ends (acts d stage)
-unfolding goes_on
+unfolding turn_from
 acts_ends d (Reads x) = tt
 acts_ends d (Awaits x) = tt
 acts_ends d Opens = tt
@@ -56,19 +56,19 @@ acts_ends d Finishes = tt
 acts_ends d Ended = tt
 
 sends_ends : (d : HostDoor) → Ends (sends d)
-unfolding goes_on
+unfolding turn_from
 sends_ends d = ends_if (length d.unsent == 0) (reads d reading.News) (writes (record d { unsent = drop 4 d.unsent }) (Reads reading.Taken) DOORBELL (little_number 4 d.unsent)) tt tt
 
 word_ends : (d : HostDoor) (value : ℕ) → Ends (takes_word d value)
-unfolding goes_on
+unfolding turn_from
 word_ends d value = ends_if (is_bad_length d.reply value) (refuses d 6 value) (writes (with_word d value) (Reads reading.News) HOST_INTERRUPT_STATUS 0) tt tt
 
 end_ends : (d : HostDoor) (value : ℕ) → Ends (hears_end d value)
-unfolding goes_on
+unfolding turn_from
 end_ends d value = ends_if (has value DOORBELL_USED) (reads d reading.Word) (writes d Finishes HOST_INTERRUPT_STATUS 0) tt tt
 
 state_ends : (d : HostDoor) (kind : ResetKind) (value : ℕ) → Ends (hears_state d kind value)
-unfolding goes_on
+unfolding turn_from
 state_ends d kind value =
     let state : ℕ = bit_and value IOC_STATE_MASK in
     let failed : Bool = (state == IOC_STATE_FAULT) || (state == IOC_STATE_OPERATIONAL) in
@@ -76,7 +76,7 @@ state_ends d kind value =
     (ends_if failed (refuses d (state_step kind) value) (reads d (reading.State kind)) tt tt)
 
 reading_ends : (d : HostDoor) (x : Reading) (value : ℕ) → Ends (hears_reading d x value)
-unfolding goes_on
+unfolding turn_from
 reading_ends d reading.Used value = ends_if (has value DOORBELL_USED) (refuses d 1 value) (reads d reading.LeftOver) tt tt
 reading_ends d reading.LeftOver value = ends_if (has value IOC2SYS_DB_STATUS) (writes d Opens HOST_INTERRUPT_STATUS 0) (opens d) tt tt
 reading_ends d reading.Opened value = ends_if (has value IOC2SYS_DB_STATUS) (writes d (Reads reading.Taken) HOST_INTERRUPT_STATUS 0) (reads d reading.Opened) tt tt
@@ -90,7 +90,7 @@ reading_ends d reading.UnitReset value = ends_if (has value SYS2IOC_DB_STATUS) (
 reading_ends d reading.Doorbell value = tt
 
 hears_ends : (d : HostDoor) (stage : Stage) (value : ℕ) → Ends (hears d stage value)
-unfolding goes_on
+unfolding turn_from
 hears_ends d (Awaits x) value = reading_ends d x value
 hears_ends d (Reads x) value = tt
 hears_ends d Opens value = tt
@@ -101,6 +101,6 @@ hears_ends d Finishes value = tt
 hears_ends d Ended value = tt
 
 -- whatever the machine and the value, the turn ends
-pub turn_ends : (d : HostDoor) (value : Option ℕ) → IsNoWrite (turn_of d value).step
+pub turn_ends : (d : HostDoor) (value : Option ℕ) → IsNoWrite (next_turn d value).step
 turn_ends d None = acts_ends d d.stage
 turn_ends d (Some value) = hears_ends d d.stage value

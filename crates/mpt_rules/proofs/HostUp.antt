@@ -10,11 +10,11 @@ use Rattle.mpt_trace.specs.declared.item.Down.{Down}
 use Rattle.mpt_trace.specs.declared.item.Down.TheVariants as down
 use Rattle.mpt_trace.specs.declared.item.Up.{Up}
 use Rattle.mpt_trace.specs.declared.item.Up.TheVariants as up
-use Rattle.mpt_trace.specs.Fields.{address_descriptor, flags_in, reply_frame_address, smid_in, success_descriptor}
+use Rattle.mpt_wire.specs.Messages.Fields.{address_descriptor, flags_in, reply_frame_address, smid_in, success_descriptor}
 use Rattle.mpt_rules.specs.declared.host_frame.HostFrame.TheVariants.{Away}
 use Rattle.mpt_rules.specs.declared.request.Request.{Request}
-use Rattle.mpt_rules.specs.HostParts.{Host, new_host}
-use Rattle.mpt_rules.specs.HostReturns.{frame_count}
+use Rattle.mpt_rules.specs.Host.Parts.{Host, new_host}
+use Rattle.mpt_rules.specs.Host.Returns.{reply_frame_count}
 
 -- ---- hosts
 
@@ -28,7 +28,7 @@ up_with q =
     record (new_host q) {
       mode = state.Up;
       phases = with_phase all_absent 0x0009 (phase.Ready disk);
-      frames = replicate frame_count Away;
+      frames = replicate reply_frame_count Away;
     }
 
 abbrev pub host_up : Host

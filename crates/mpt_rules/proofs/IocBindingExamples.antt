@@ -7,13 +7,13 @@ use Rattle.event_msgs.specs.TopologyEntry.{topology_entry_layout, topology_entry
 use Rattle.ioc_msgs.specs.UnitControl.{unit_control_layout, unit_control_values}
 use Rattle.ioc_msgs.specs.UnitControlReply.{unit_control_reply_layout, unit_control_reply_values}
 use Rattle.mpt_messages.specs.declared.host_ask.HostAsk.TheVariants as ask
-use Rattle.mpt_trace.specs.Fields.{changes_from}
+use Rattle.mpt_wire.specs.Messages.Fields.{changes_from}
 use Rattle.mpt_trace.specs.declared.entry.Entry.TheVariants as entry
 use Rattle.mpt_trace.specs.declared.item.Back.TheVariants as back
 use Rattle.mpt_rules.specs.declared.binding.Binding.TheVariants as binding
-use Rattle.mpt_rules.specs.Ioc.{steps_normal, takes_back}
-use Rattle.mpt_rules.specs.IocParts.{Ioc}
-use Rattle.mpt_rules.specs.IocTables.{binding_of, with_binding}
+use Rattle.mpt_rules.specs.Ioc.Takes.{steps_normal, takes_back}
+use Rattle.mpt_rules.specs.Ioc.Parts.{Ioc}
+use Rattle.mpt_rules.specs.Ioc.Tables.{binding_of, with_binding}
 use Rattle.mpt_rules.proofs.IocExampleParts.{default_post, events, hears_all, normal, operational, seen, takes_all, with_disk}
 
 -- ---- plugged

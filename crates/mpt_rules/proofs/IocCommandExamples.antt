@@ -10,13 +10,13 @@ use Rattle.mpt_messages.specs.FrameBytes.{message_frame}
 use Rattle.mpt_messages.specs.HostFrames.{scsi_io_asked}
 use Rattle.mpt_messages.specs.declared.host_ask.HostAsk.TheVariants as ask
 use Rattle.mpt_messages.specs.declared.message.Message.TheVariants as message
-use Rattle.mpt_trace.specs.Fields.{post_descriptor}
+use Rattle.mpt_wire.specs.Messages.Fields.{post_descriptor}
 use Rattle.mpt_trace.specs.declared.item.Back.TheVariants as back
 use Rattle.mpt_trace.specs.declared.item.Down.TheVariants as down
 use Rattle.mpt_trace.specs.declared.item.Out.TheVariants as out
 use Rattle.scsi_disk.specs.declared.scsi_result.ScsiResult.{ScsiResult}
-use Rattle.mpt_rules.specs.IocCommands.{data_differ, direction_differs, element_differs, element_goes_wrong, is_inconsistent, is_too_long}
-use Rattle.mpt_rules.specs.IocParts.{Ioc}
+use Rattle.mpt_rules.specs.Ioc.Commands.{data_differ, direction_differs, element_differs, element_goes_wrong, is_inconsistent, is_too_long}
+use Rattle.mpt_rules.specs.Ioc.Parts.{Ioc}
 use Rattle.mpt_rules.proofs.IocExampleParts.{at_work, block_cdb, hears_all, normal, operational, ready_test, scsi_post, seen, takes_all, tests, with_disk, with_gone_disk, write_block}
 
 -- ---- refusals, in their order

@@ -8,17 +8,17 @@ use Rattle.mpt_messages.specs.FrameBytes.{message_frame}
 use Rattle.mpt_messages.specs.HostFrames.{host_message}
 use Rattle.mpt_messages.specs.declared.host_ask.HostAsk.{HostAsk}
 use Rattle.mpt_messages.specs.declared.host_ask.HostAsk.TheVariants as ask
-use Rattle.mpt_trace.specs.Fields.{Change, changes_in, event_context_in, function_in, ioc_status_in, post_descriptor, termination_count_in}
+use Rattle.mpt_wire.specs.Messages.Fields.{Change, changes_in, event_context_in, function_in, ioc_status_in, post_descriptor, termination_count_in}
 use Rattle.mpt_trace.specs.declared.item.Down.{Down}
 use Rattle.mpt_trace.specs.declared.item.Down.TheVariants as down
 use Rattle.mpt_trace.specs.declared.item.Back.{Back}
 use Rattle.mpt_rules.specs.declared.binding.Binding.TheVariants as binding
 use Rattle.mpt_rules.specs.declared.said.Said.{Said}
 use Rattle.mpt_rules.specs.declared.said.Said.TheVariants as said
-use Rattle.mpt_rules.specs.Ioc.{steps_high, steps_normal, takes_back, takes_down}
-use Rattle.mpt_rules.specs.IocParts.{Ioc, new_ioc}
-use Rattle.mpt_rules.specs.IocReplies.{outbox_of}
-use Rattle.mpt_rules.specs.IocTables.{in_state, with_binding}
+use Rattle.mpt_rules.specs.Ioc.Takes.{steps_high, steps_normal, takes_back, takes_down}
+use Rattle.mpt_rules.specs.Ioc.Parts.{Ioc, new_ioc}
+use Rattle.mpt_rules.specs.Ioc.Replies.{outbox_of}
+use Rattle.mpt_rules.specs.Ioc.Tables.{in_state, with_binding}
 
 -- ---- controllers
 

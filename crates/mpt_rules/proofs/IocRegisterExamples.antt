@@ -12,15 +12,16 @@ use Rattle.mpi_doorbell.specs.DoorRegisters.{new_registers}
 use Rattle.mpi_doorbell.specs.Handshake.{Handshake, Idle, Collects, Asked, Replies}
 use Rattle.mpi_doorbell.specs.declared.registers.TheConstants.{DOORBELL}
 use Rattle.mpi_doorbell.specs.declared.state.IocState.TheVariants as state
-use Rattle.mpt_messages.specs.Blank.{blank_ioc_facts, blank_port_facts}
+use Rattle.ioc_msgs.specs.declared.ioc_facts.TheConstants.IocFacts.{BLANK as blank_ioc_facts}
+use Rattle.ioc_msgs.specs.declared.port_facts.TheConstants.PortFacts.{BLANK as blank_port_facts}
 use Rattle.mpt_messages.specs.FrameBytes.{message_bytes}
 use Rattle.mpt_messages.specs.HostFrames.{init_asked}
 use Rattle.mpt_messages.specs.declared.message.Message.TheVariants as message
-use Rattle.mpt_trace.specs.Fields.{max_msix_vectors_in}
+use Rattle.mpt_wire.specs.Messages.Fields.{max_msix_vectors_in}
 use Rattle.mpt_trace.specs.declared.item.Down.{Down}
 use Rattle.mpt_trace.specs.declared.item.Down.TheVariants as down
-use Rattle.mpt_rules.specs.IocParts.{Ioc, new_ioc, state_of}
-use Rattle.mpt_rules.specs.IocRegisters.{handshakes}
+use Rattle.mpt_rules.specs.Ioc.Parts.{Ioc, new_ioc, state_of}
+use Rattle.mpt_rules.specs.Ioc.Registers.{handshakes}
 use Rattle.mpt_rules.proofs.IocExampleParts.{operational, seen, takes_all}
 
 -- ---- reads

@@ -21,7 +21,7 @@ use Rattle.mpt_messages.specs.HostFrames.{page_asked, removal_asked}
 use Rattle.mpt_messages.specs.declared.host_ask.HostAsk.TheVariants as ask
 use Rattle.mpt_messages.specs.declared.message.Message.{Message}
 use Rattle.mpt_messages.specs.declared.message.Message.TheVariants as message
-use Rattle.mpt_trace.specs.Fields.{page_dev_handle_in, page_sas_address_in, post_descriptor}
+use Rattle.mpt_wire.specs.Messages.Fields.{page_dev_handle_in, page_sas_address_in, post_descriptor}
 use Rattle.mpt_trace.specs.declared.item.Back.TheVariants as back
 use Rattle.mpt_trace.specs.declared.item.Down.{Down}
 use Rattle.mpt_trace.specs.declared.item.Down.TheVariants as down
@@ -29,9 +29,9 @@ use Rattle.mpt_trace.specs.declared.item.Out.TheVariants as out
 use Rattle.mpt_rules.specs.declared.binding.Binding.TheVariants as binding
 use Rattle.mpt_rules.specs.declared.said.Said.{Said}
 use Rattle.mpt_rules.specs.declared.said.Said.TheVariants as said
-use Rattle.mpt_rules.specs.IocParts.{Ioc}
-use Rattle.mpt_rules.specs.IocReplies.{outbox_of}
-use Rattle.mpt_rules.specs.IocTables.{binding_of, with_binding}
+use Rattle.mpt_rules.specs.Ioc.Parts.{Ioc}
+use Rattle.mpt_rules.specs.Ioc.Replies.{outbox_of}
+use Rattle.mpt_rules.specs.Ioc.Tables.{binding_of, with_binding}
 use Rattle.mpt_rules.proofs.IocExampleParts.{at_work, default_post, hears_all, normal, operational, ready_test, seen, takes_all, with_disk, with_gone_disk}
 
 -- a message as a default post of identifier 265

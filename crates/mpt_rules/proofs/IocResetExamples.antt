@@ -8,16 +8,16 @@ use Rattle.mpi_doorbell.specs.declared.registers.TheConstants.{DOORBELL, WRITE_S
 use Rattle.mpi_doorbell.specs.declared.state.IocState.{IocState}
 use Rattle.mpi_doorbell.specs.declared.state.IocState.TheVariants as state
 use Rattle.mpi_rings.specs.declared.request_descriptor.PostKind.TheVariants as post
-use Rattle.mpt_trace.specs.Fields.{post_descriptor}
+use Rattle.mpt_wire.specs.Messages.Fields.{post_descriptor}
 use Rattle.mpt_trace.specs.declared.entry.Entry.TheVariants as entry
 use Rattle.mpt_trace.specs.declared.item.Back.TheVariants as back
 use Rattle.mpt_trace.specs.declared.item.Down.{Down}
 use Rattle.mpt_trace.specs.declared.item.Down.TheVariants as down
 use Rattle.mpt_trace.specs.declared.item.Out.TheVariants as out
 use Rattle.mpt_rules.specs.declared.said.Said.TheVariants as said
-use Rattle.mpt_rules.specs.Ioc.{takes_down}
-use Rattle.mpt_rules.specs.IocParts.{Ioc, new_ioc, state_of}
-use Rattle.mpt_rules.specs.IocTables.{in_state}
+use Rattle.mpt_rules.specs.Ioc.Takes.{takes_down}
+use Rattle.mpt_rules.specs.Ioc.Parts.{Ioc, new_ioc, state_of}
+use Rattle.mpt_rules.specs.Ioc.Tables.{in_state}
 use Rattle.mpt_rules.proofs.IocExampleParts.{at_work, hears_all, operational, seen, takes_all, tests}
 
 -- ---- FAULT

@@ -7,8 +7,8 @@ use Rattle.mpt_messages.specs.declared.host_ask.HostAsk.TheVariants as ask
 use Rattle.mpt_trace.specs.declared.item.Back.TheVariants as back
 use Rattle.mpt_trace.specs.declared.item.Up.TheVariants as up
 use Rattle.mpt_rules.specs.declared.said.Said.TheVariants as said
-use Rattle.mpt_rules.specs.Ioc.{AtTheFabric, InHighQueue, InNormalQueue, InUpOutbox, frame_here, front_up_on, ioc_quiet, smid_at, up_sent_on}
-use Rattle.mpt_rules.specs.IocParts.{Ioc, new_ioc}
+use Rattle.mpt_rules.specs.Ioc.Takes.{AtTheFabric, InHighQueue, InNormalQueue, InUpOutbox, frame_here, front_up_on, ioc_quiet, smid_at, up_sent_on}
+use Rattle.mpt_rules.specs.Ioc.Parts.{Ioc, new_ioc}
 use Rattle.mpt_rules.proofs.IocExampleParts.{at_work, hears_all, high, high_post, operational, takes_all, tests, with_disk}
 
 -- two replies that need a frame, and one that doesn't, behind each other on queue 1

@@ -7,14 +7,14 @@ use Rattle.scsi_msgs.specs.TaskAsk.{task_ask_layout, task_ask_values}
 use Rattle.scsi_msgs.specs.TaskReply.{task_reply_layout, task_reply_values}
 use Rattle.mpi_rings.specs.declared.request_descriptor.PostKind.TheVariants as post
 use Rattle.mpt_messages.specs.declared.host_ask.HostAsk.TheVariants as ask
-use Rattle.mpt_trace.specs.Fields.{post_descriptor}
+use Rattle.mpt_wire.specs.Messages.Fields.{post_descriptor}
 use Rattle.mpt_trace.specs.declared.item.Back.TheVariants as back
 use Rattle.mpt_trace.specs.declared.item.Down.{Down}
 use Rattle.mpt_trace.specs.declared.item.Down.TheVariants as down
 use Rattle.mpt_trace.specs.declared.item.Out.TheVariants as out
 use Rattle.mpt_rules.specs.declared.at_fabric.AtFabric.TheVariants as at
-use Rattle.mpt_rules.specs.IocParts.{Ioc}
-use Rattle.mpt_rules.specs.IocTables.{request_at}
+use Rattle.mpt_rules.specs.Ioc.Parts.{Ioc}
+use Rattle.mpt_rules.specs.Ioc.Tables.{request_at}
 use Rattle.mpt_rules.proofs.IocExampleParts.{at_work, counts, hears_all, high, high_post, operational, ready_test, response_codes, scsi_post, seen, takes_all, tests, with_disk, with_gone_disk}
 
 -- an abort of identifier 1 and a target reset, both of handle 0x0009

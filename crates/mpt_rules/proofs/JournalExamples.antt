@@ -13,12 +13,12 @@ use Rattle.mpt_trace.specs.declared.item.Item.TheVariants as item
 use Rattle.mpt_trace.specs.declared.item.Out.TheVariants as out
 use Rattle.mpt_trace.specs.declared.lane.LaneName.TheVariants as lane
 use Rattle.mpt_trace.specs.declared.parties.Party.TheVariants as party
-use Rattle.mpt_rules.specs.Cases.{Chosen, Told, run}
-use Rattle.mpt_rules.specs.Counts.{how_many, posts, replies}
-use Rattle.mpt_rules.specs.Lines.{down_line, high_posts, high_line, normal_posts, normal_line, up_line}
-use Rattle.mpt_rules.specs.News.{notices_of}
-use Rattle.mpt_rules.specs.OpenCases.{FabricCase}
-use Rattle.mpt_rules.specs.Journals.{At, Block, fabric_journal, merge, puts_of, takes_of}
+use Rattle.mpt_rules.specs.World.Cases.{Chosen, Told, run}
+use Rattle.mpt_rules.specs.World.Counts.{how_many, post_count, reply_count}
+use Rattle.mpt_rules.specs.World.Lines.{down_line, high_posts, high_line, normal_posts, normal_line, up_line}
+use Rattle.mpt_rules.specs.World.News.{notices_of}
+use Rattle.mpt_rules.specs.Session.OpenCases.{FabricCase}
+use Rattle.mpt_rules.specs.Session.Journals.{At, Block, fabric_journal, merge, puts_of, takes_of}
 use Rattle.mpt_rules.proofs.WorldExampleParts.{A, answered, one_disk, plugged_disk, posted, up_fabric}
 
 -- ---- journals
@@ -66,12 +66,12 @@ not_high : high_line (posted form.Tur (plugged_disk A 0 ∷ [])) ≡ []
 unfolding field scsi_io_layout scsi_io_values high_posts
 not_high = refl
 
-one_post : posts 1 (down_line (posted form.Tur (plugged_disk A 0 ∷ []))) ≡ 1
-unfolding field scsi_io_layout scsi_io_values posts how_many
+one_post : post_count 1 (down_line (posted form.Tur (plugged_disk A 0 ∷ []))) ≡ 1
+unfolding field scsi_io_layout scsi_io_values post_count how_many
 one_post = refl
 
-one_reply : replies 1 (up_line (answered form.Tur []) 0) ≡ 1
-unfolding replies how_many
+one_reply : reply_count 1 (up_line (answered form.Tur []) 0) ≡ 1
+unfolding reply_count how_many
 one_reply = refl
 
 -- an unplug and a plug of a disk, as the notices tell them

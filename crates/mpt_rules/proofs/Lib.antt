@@ -2,6 +2,7 @@ pub mod HostUp
 pub mod HostExamples
 pub mod StrangeExamples
 -- Lemmas on what the lines hold, and computed examples.
+pub mod HostCalls
 pub mod Counts
 pub mod PutsKeepLines
 pub mod BoundToTarget
@@ -43,3 +44,5 @@ mod IocResetExamples
 pub mod StartExamples
 pub mod HostTurns
 mod WireExamples
+pub mod RegisterTies
+pub mod RepeatedAnswers

@@ -4,8 +4,8 @@ use Rattle.std.specs.List.{cons_option}
 use Rattle.mpt_trace.specs.declared.item.Down.{Down}
 use Rattle.mpt_trace.specs.declared.item.Back.{Back}
 use Rattle.mpt_rules.specs.declared.said.Said.{Said}
-use Rattle.mpt_rules.specs.Lines.{high_post, normal_post, high_posts, normal_posts}
-use Rattle.mpt_rules.specs.News.{is_notice_of, notices_of, news_in, events_of}
+use Rattle.mpt_rules.specs.World.Lines.{high_post, normal_post, high_posts, normal_posts}
+use Rattle.mpt_rules.specs.World.News.{is_notice_of, notices_of, news_in, events_of}
 
 -- the posts of one priority
 cons_option-append : {X : Type 0} (o : Option X) (xs ys : List X) → cons_option o (xs ++ ys) ≡ cons_option o xs ++ ys

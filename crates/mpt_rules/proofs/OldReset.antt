@@ -11,7 +11,7 @@ use Rattle.scsi_disk.specs.Operation.{operation_of}
 use Rattle.scsi_msgs.specs.ScsiIo.{scsi_io_layout, scsi_io_values}
 use Rattle.mpt_rules.specs.declared.request.Request.{Request}
 use Rattle.smid_pool.specs.Pool.{Free, Open, Slot, all_free, with_slot}
-use Rattle.mpt_rules.specs.HostReplies.{slot_after}
+use Rattle.mpt_rules.specs.Host.Replies.{slot_after}
 use Rattle.std.specs.FinMap.{get-empty}
 use Rattle.scsi_msgs.specs.TaskReply.{task_reply_layout, task_reply_values}
 use Rattle.ioc_msgs.specs.UnitControlReply.{unit_control_reply_layout, unit_control_reply_values}
@@ -26,29 +26,29 @@ use Rattle.mpt_rules.specs.declared.post.Post.{Post}
 use Rattle.mpt_rules.specs.declared.request.Request.TheVariants as request
 use Rattle.std.proofs.Common.{ap}
 use Rattle.std.specs.Ordering.{nat_cmp}
-use Rattle.mpt_rules.specs.HostParts.{Host}
-use Rattle.mpt_rules.specs.HostInputs.{accepts}
-use Rattle.mpt_rules.specs.IocParts.{Ioc}
-use Rattle.mpt_rules.specs.IocTables.{with_binding}
+use Rattle.mpt_rules.specs.Host.Parts.{Host}
+use Rattle.mpt_rules.specs.Host.Inputs.{with_accepted}
+use Rattle.mpt_rules.specs.Ioc.Parts.{Ioc}
+use Rattle.mpt_rules.specs.Ioc.Tables.{with_binding}
 use Rattle.std.specs.Prelude.{◌++◌}
 use Rattle.std.specs.FinSet as set
 use Rattle.removal.specs.declared.phase.Phase.{Phase}
 use Rattle.removal.specs.declared.phase.Phase.TheVariants as phase
 use Rattle.mpt_rules.specs.declared.status.TheConstants.{IOC_STATUS_SUCCESS}
 use Rattle.mpt_rules.specs.declared.said.Said.{Said}
-use Rattle.mpt_rules.specs.World.{World}
-use Rattle.mpt_rules.specs.Cases.{Case, Chosen, Told}
+use Rattle.mpt_rules.specs.World.State.{World}
+use Rattle.mpt_rules.specs.World.Cases.{Case, Chosen, Told}
 use Rattle.mpt_rules.proofs.SchedulePieces.{Goes, and_then, answers, default_post, host_at, ioc_at, rounds, tells}
 use Rattle.mpt_rules.proofs.WorldExampleParts.{A, one_disk, submit}
-use Rattle.mpt_trace.specs.Fields.{target_reset}
+use Rattle.mpt_wire.specs.Messages.Fields.{target_reset}
 use Rattle.mpt_rules.specs.declared.at_fabric.AtFabric.TheVariants as at
-use Rattle.mpt_rules.specs.IocReplies.{framed, task_ended}
-use Rattle.mpt_rules.specs.IocTables.{with_request}
+use Rattle.mpt_rules.specs.Ioc.Replies.{framed, task_ended}
+use Rattle.mpt_rules.specs.Ioc.Tables.{with_request}
 use Rattle.mpt_rules.specs.declared.task.Task.{Task}
 use Rattle.mpt_trace.specs.declared.item.Back.TheVariants as back
 use Rattle.mpt_trace.specs.declared.outcome.TargetOutcome.TheVariants as target
 use Rattle.mpt_rules.specs.declared.said.Said.TheVariants as said
-use Rattle.mpt_rules.specs.HostParts.{Cmd}
+use Rattle.mpt_rules.specs.Host.Parts.{Cmd}
 use Rattle.mpt_rules.proofs.PluggedAgain.{again, disk_plugged_again, fabric_with, leave_post, leaving, none_unacked, phases_of, ready, ready_host, with_both, world_of}
 use Rattle.mpt_rules.specs.declared.at_fabric.AtFabric.{AtFabric}
 use Rattle.std.specs.FinMap.{FinMap}
@@ -57,7 +57,7 @@ use Rattle.std.specs.FinMap.{FinMap}
 
 -- the host has it open
 abbrev command_open : World
-command_open = world_of (accepts ready_host 1 A (command_named form.Tur) 0x000a 1) ready.ioc (fabric_with [] [])
+command_open = world_of (with_accepted ready_host 1 A (command_named form.Tur) 0x000a 1) ready.ioc (fabric_with [] [])
 
 -- it is for the new handle
 command_accepted : Goes ready (submit 1 A form.Tur ∷ []) (entry.Accept 1 A 1 ∷ []) command_open

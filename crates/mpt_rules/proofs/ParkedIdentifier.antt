@@ -10,9 +10,9 @@ use Rattle.scsi_disk.specs.Operation.{operation_of}
 use Rattle.scsi_msgs.specs.ScsiIo.{scsi_io_layout, scsi_io_values}
 use Rattle.mpt_rules.specs.declared.request.Request.{Request}
 use Rattle.smid_pool.specs.Pool.{Free, Open, Slot, all_free, with_slot}
-use Rattle.mpt_rules.specs.HostReplies.{slot_after}
+use Rattle.mpt_rules.specs.Host.Replies.{slot_after}
 use Rattle.std.specs.FinMap.{get-insert}
-use Rattle.mpt_trace.specs.Fields.{success_descriptor}
+use Rattle.mpt_wire.specs.Messages.Fields.{success_descriptor}
 use Rattle.scsi_msgs.specs.TaskReply.{task_reply_layout, task_reply_values}
 use Rattle.scsi_msgs.specs.TaskAsk.{task_ask_layout, task_ask_values}
 use Rattle.mpt_trace.specs.declared.choice.Choice.TheVariants as choice
@@ -25,19 +25,19 @@ use Rattle.mpt_rules.specs.declared.request.Request.TheVariants as request
 use Rattle.std.proofs.Common.{ap}
 use Rattle.std.specs.Cmp.{nat_cmp_total}
 use Rattle.std.specs.Ordering.{nat_cmp}
-use Rattle.mpt_rules.specs.HostParts.{Host}
-use Rattle.mpt_rules.specs.HostInputs.{accepts}
+use Rattle.mpt_rules.specs.Host.Parts.{Host}
+use Rattle.mpt_rules.specs.Host.Inputs.{with_accepted}
 use Rattle.std.specs.Prelude.{◌++◌}
 use Rattle.std.specs.FinSet as set
 use Rattle.std.specs.FinSet.{FinSet}
-use Rattle.mpt_rules.specs.World.{World}
-use Rattle.mpt_rules.specs.Cases.{Case, Chosen, Told}
+use Rattle.mpt_rules.specs.World.State.{World}
+use Rattle.mpt_rules.specs.World.Cases.{Case, Chosen, Told}
 use Rattle.mpt_rules.proofs.SchedulePieces.{Goes, and_then, answers, command_post, ioc_at, rounds, tells}
 use Rattle.mpt_rules.proofs.WorldExampleParts.{A, one_disk, submit}
-use Rattle.mpt_rules.specs.HostParts.{Cmd}
+use Rattle.mpt_rules.specs.Host.Parts.{Cmd}
 use Rattle.std.specs.FinMap.{FinMap}
-use Rattle.mpt_rules.specs.HostInputs.{asks_abort}
-use Rattle.mpt_rules.specs.HostReplies.{takes_entry}
+use Rattle.mpt_rules.specs.Host.Inputs.{with_abort_asked}
+use Rattle.mpt_rules.specs.Host.Replies.{takes_entry}
 use Rattle.smid_pool.specs.Pool.{Parked}
 use Rattle.mpt_trace.specs.declared.outcome.AbortOutcome.TheVariants as abort
 use Rattle.mpt_trace.specs.declared.refusal.Refusal.TheVariants as refusal
@@ -49,7 +49,7 @@ use Rattle.mpt_trace.specs.declared.outcome.Outcome.{Outcome}
 
 -- the host has it open
 abbrev second_open : World
-second_open = record nothing_open { host = accepts nothing_open.host 2 A (command_named form.Tur) 0x0009 1 }
+second_open = record nothing_open { host = with_accepted nothing_open.host 2 A (command_named form.Tur) 0x0009 1 }
 
 -- it gets the identifier that the first one had
 second_accepted : Goes nothing_open (submit 2 A form.Tur ∷ []) (entry.Accept 2 A 1 ∷ []) second_open
@@ -85,7 +85,7 @@ second_runs = record { shows = refl; leaves = refl }
 
 -- the host has the abort open, and its post in its outbox
 abbrev second_aborted : World
-second_aborted = record second_replied { host = asks_abort second_host 2 (cmd 1) 257 }
+second_aborted = record second_replied { host = with_abort_asked second_host 2 (cmd 1) 257 }
 
 -- the command is still open, so the abort is asked
 second_abort_asked : Goes second_replied (Told (input.Abort 2) ∷ []) [] second_aborted
@@ -101,7 +101,7 @@ aborts_2 = map.insert aborts_none 2 257
 abbrev second_over : Slot Request → World
 second_over slot =
     world_of
-    (record (takes_entry (asks_abort second_host 2 (cmd 1) 257) 0) {
+    (record (takes_entry (with_abort_asked second_host 2 (cmd 1) 257) 0) {
       pool = with_slot 1 slot (with_slot 257 (Open (request.Abort 2 1)) all_free);
       cmds = map.remove cmds_2 2;
     })
@@ -117,7 +117,7 @@ identifier_parked = record { shows = refl; leaves = ap (λ found. second_over (s
 
 -- the host has it open
 abbrev third_open : World
-third_open = record (second_over Parked) { host = accepts (second_over Parked).host 3 A (command_named form.Tur) 0x0009 2 }
+third_open = record (second_over Parked) { host = with_accepted (second_over Parked).host 3 A (command_named form.Tur) 0x0009 2 }
 
 -- the parked identifier is not given
 parked_isnt_given : Goes (second_over Parked) (submit 3 A form.Tur ∷ []) (entry.Accept 3 A 2 ∷ []) third_open
@@ -172,7 +172,7 @@ third_runs = record { shows = refl; leaves = ap (λ found. third_over (slot_afte
 
 -- the host has it open
 abbrev fourth_open : World
-fourth_open = record (third_over Free) { host = accepts (third_over Free).host 4 A (command_named form.Tur) 0x0009 1 }
+fourth_open = record (third_over Free) { host = with_accepted (third_over Free).host 4 A (command_named form.Tur) 0x0009 1 }
 
 -- the identifier that was parked is given again
 fourth_accepted : Goes (third_over Free) (submit 4 A form.Tur ∷ []) (entry.Accept 4 A 1 ∷ []) fourth_open

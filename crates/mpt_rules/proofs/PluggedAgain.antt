@@ -2,7 +2,7 @@
 use Rattle.std.proofs.Common.{List, [], ◌∷◌, refl}
 use Rattle.mpi_layout.specs.Rows.{field}
 use Rattle.mpt_messages.specs.declared.host_ask.HostAsk.TheVariants as ask
-use Rattle.mpt_trace.specs.Fields.{changes_from, topology_change_list}
+use Rattle.mpt_wire.specs.Messages.Fields.{changes_from, topology_change_list}
 use Rattle.event_msgs.specs.EventAck.{event_ack_layout, event_ack_values}
 use Rattle.event_msgs.specs.EventReply.{event_reply_layout, event_reply_values}
 use Rattle.event_msgs.specs.Topology.{topology_layout, topology_values}
@@ -10,7 +10,7 @@ use Rattle.event_msgs.specs.TopologyEntry.{topology_entry_layout, topology_entry
 use Rattle.config_pages.specs.ConfigAsk.{config_ask_layout, config_ask_values}
 use Rattle.config_pages.specs.ConfigReply.{config_reply_layout, config_reply_values}
 use Rattle.config_pages.specs.DevicePage0.{device_page0_layout, device_page0_values}
-use Rattle.mpt_rules.specs.IocConfiguration.{ends_config, page_bytes}
+use Rattle.mpt_rules.specs.Ioc.Configuration.{ends_config, page_bytes}
 use Rattle.std.proofs.Common.{◌∙◌}
 use Rattle.mpt_rules.specs.declared.request.Request.{Request}
 use Rattle.smid_pool.specs.Pool.{Open, Slot, all_free, with_slot}
@@ -26,10 +26,10 @@ use Rattle.std.proofs.Common.{ap, true, false}
 use Rattle.std.specs.FinSet.{contains-insert, contains-remove}
 use Rattle.std.specs.Cmp.{nat_cmp_total}
 use Rattle.std.specs.Ordering.{nat_cmp}
-use Rattle.mpt_rules.specs.HostParts.{Host}
-use Rattle.mpt_rules.specs.HostRemoval.{first_not_absent, hears_changes}
-use Rattle.mpt_rules.specs.IocParts.{Ioc}
-use Rattle.mpt_rules.specs.IocTables.{with_binding}
+use Rattle.mpt_rules.specs.Host.Parts.{Host}
+use Rattle.mpt_rules.specs.Host.Removal.{first_not_absent, hears_changes}
+use Rattle.mpt_rules.specs.Ioc.Parts.{Ioc}
+use Rattle.mpt_rules.specs.Ioc.Tables.{with_binding}
 use Rattle.std.specs.Prelude.{◌++◌}
 use Rattle.std.specs.List.{range_with_len}
 use Rattle.std.specs.FinSet as set
@@ -40,13 +40,13 @@ use Rattle.removal.specs.declared.phase.Phase.TheVariants as phase
 use Rattle.mpt_messages.specs.declared.ioc_reply.IocReply.TheVariants as reply
 use Rattle.mpt_rules.specs.declared.status.TheConstants.{IOC_STATUS_SUCCESS}
 use Rattle.mpt_rules.specs.declared.said.Said.{Said}
-use Rattle.mpt_rules.specs.World.{World}
-use Rattle.mpt_rules.specs.Cases.{Case, Chosen, Told}
+use Rattle.mpt_rules.specs.World.State.{World}
+use Rattle.mpt_rules.specs.World.Cases.{Case, Chosen, Told}
 use Rattle.mpt_rules.proofs.SchedulePieces.{Goes, ack_post, ack_reply, acked, and_then, default_post, host_at, ioc_at, rounds, task_post, tells, took}
 use Rattle.mpt_rules.proofs.WorldExampleParts.{A, one_disk, plugged_disk, up_fabric, up_host, up_ioc}
-use Rattle.mpt_trace.specs.Fields.{target_reset}
-use Rattle.mpt_rules.specs.IocReplies.{framed}
-use Rattle.mpt_rules.specs.FabricParts.{Fabric}
+use Rattle.mpt_wire.specs.Messages.Fields.{target_reset}
+use Rattle.mpt_rules.specs.Ioc.Replies.{framed}
+use Rattle.mpt_rules.specs.Fabric.Parts.{Fabric}
 use Rattle.mpt_rules.specs.declared.task.Task.{Task}
 use Rattle.mpt_trace.specs.declared.item.Back.{Back}
 

@@ -5,15 +5,15 @@ use Rattle.mpt_trace.specs.declared.item.Down.{Down}
 use Rattle.mpt_trace.specs.declared.item.Down.TheVariants as down
 use Rattle.mpt_trace.specs.declared.item.Out.{Out}
 use Rattle.mpt_trace.specs.declared.item.Back.{Back}
-use Rattle.mpt_rules.specs.HostParts.{Host}
-use Rattle.mpt_rules.specs.HostReturns.{sends}
-use Rattle.mpt_rules.specs.World.{World}
-use Rattle.mpt_rules.specs.Cases.{happens, Chosen, moves_or_idles}
-use Rattle.mpt_rules.specs.Moves.{host_puts, ioc_puts_out, fabric_puts}
-use Rattle.mpt_rules.specs.Lines.{down_line, out_line, back_line, high_line, normal_line, high_posts, normal_posts}
+use Rattle.mpt_rules.specs.Host.Parts.{Host}
+use Rattle.mpt_rules.specs.Host.Returns.{after_sent}
+use Rattle.mpt_rules.specs.World.State.{World}
+use Rattle.mpt_rules.specs.World.Cases.{happens, Chosen, moves_or_idles}
+use Rattle.mpt_rules.specs.World.Moves.{host_puts, ioc_puts_out, fabric_puts}
+use Rattle.mpt_rules.specs.World.Lines.{down_line, out_line, back_line, high_line, normal_line, high_posts, normal_posts}
 
 -- what is left in the host's outbox
-sends-out : (host : Host) (item : Down) (rest : List Down) → (sends host item rest).out ≡ rest
+sends-out : (host : Host) (item : Down) (rest : List Down) → (after_sent host item rest).out ≡ rest
 sends-out host (down.Return address index) rest = refl
 sends-out host (down.Write reg value) rest = refl
 sends-out host (down.Read reg) rest = refl

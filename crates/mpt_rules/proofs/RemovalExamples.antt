@@ -1,7 +1,7 @@
 -- A disk is unplugged, and its handle is removed and given to another one, computed.
 use Rattle.std.proofs.Common.{◌≡◌, List, [], ◌∷◌, refl}
 use Rattle.mpi_layout.specs.Rows.{field}
-use Rattle.mpt_trace.specs.Fields.{changes_from}
+use Rattle.mpt_wire.specs.Messages.Fields.{changes_from}
 use Rattle.event_msgs.specs.EventAck.{event_ack_layout, event_ack_values}
 use Rattle.event_msgs.specs.EventReply.{event_reply_layout, event_reply_values}
 use Rattle.event_msgs.specs.Topology.{topology_layout, topology_values}
@@ -13,11 +13,11 @@ use Rattle.mpt_trace.specs.declared.entry.Entry.TheVariants as entry
 use Rattle.mpt_trace.specs.declared.input.Input.TheVariants as input
 use Rattle.mpt_rules.specs.declared.binding.Binding.TheVariants as binding
 use Rattle.mpt_rules.specs.declared.request.Request.TheVariants as request
-use Rattle.mpt_rules.specs.HostPosts.{posts_internal}
-use Rattle.mpt_rules.specs.IocTables.{with_binding}
-use Rattle.mpt_rules.specs.HostRemoval.{first_not_absent, hears_changes}
-use Rattle.mpt_rules.specs.World.{World}
-use Rattle.mpt_rules.specs.Cases.{Case, Chosen, Told}
+use Rattle.mpt_rules.specs.Host.Posts.{posts_internal}
+use Rattle.mpt_rules.specs.Ioc.Tables.{with_binding}
+use Rattle.mpt_rules.specs.Host.Removal.{first_not_absent, hears_changes}
+use Rattle.mpt_rules.specs.World.State.{World}
+use Rattle.mpt_rules.specs.World.Cases.{Case, Chosen, Told}
 use Rattle.mpt_rules.proofs.WorldExampleParts.{A, B, one_disk, plugged_disk, shown, spare_disk, up_world}
 
 -- the host hears that the disk isn't responding

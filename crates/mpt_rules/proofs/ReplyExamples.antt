@@ -22,15 +22,15 @@ use Rattle.mpt_trace.specs.declared.item.Up.{Up}
 use Rattle.mpt_trace.specs.declared.outcome.Outcome.TheVariants as outcome
 use Rattle.mpt_trace.specs.declared.outcome.AbortOutcome.TheVariants as abort
 use Rattle.mpt_trace.specs.declared.outcome.TargetOutcome.TheVariants as target
-use Rattle.mpt_trace.specs.Fields.{changes_from, reply_frame_address}
+use Rattle.mpt_wire.specs.Messages.Fields.{changes_from, reply_frame_address}
 use Rattle.mpt_rules.specs.declared.host_frame.HostFrame.TheVariants.{Held, Out}
 use Rattle.mpt_rules.specs.declared.request.Request.{Request}
 use Rattle.mpt_rules.specs.declared.request.Request.TheVariants as request
 use Rattle.mpt_rules.specs.Outcome.{Called}
 use Rattle.mpt_rules.specs.declared.why.Why.{Why}
-use Rattle.mpt_rules.specs.HostParts.{Host}
-use Rattle.mpt_rules.specs.HostRemoval.{first_not_absent}
-use Rattle.mpt_rules.specs.Host.{takes_up}
+use Rattle.mpt_rules.specs.Host.Parts.{Host}
+use Rattle.mpt_rules.specs.Host.Removal.{first_not_absent}
+use Rattle.mpt_rules.specs.Host.Takes.{takes_up}
 use Rattle.mpt_rules.proofs.HostUp.{disk, frame_with, page_of, posted, puts_of, replies, returned, says, succeeds, with_open, with_open_in, with_two, wrote}
 
 -- an item comes on the first queue

@@ -22,46 +22,46 @@ use Rattle.mpt_trace.specs.declared.outcome.TargetOutcome.TheVariants as target
 use Rattle.mpt_rules.specs.declared.host_frame.HostFrame.TheVariants.{Held, Away}
 use Rattle.mpt_rules.specs.declared.request.Request.TheVariants as request
 use Rattle.mpt_rules.specs.declared.stage.Stage.TheVariants as stage
-use Rattle.mpt_rules.specs.HostParts.{Cmd, Host}
-use Rattle.mpt_rules.specs.HostDoorbell.{goes_on}
-use Rattle.mpt_rules.specs.Host.{diag_resets, host_waits, looks, resets_target, takes_up, unit_resets}
+use Rattle.mpt_rules.specs.Host.Parts.{Cmd, Host}
+use Rattle.mpt_rules.specs.Host.Doorbell.{turn_from}
+use Rattle.mpt_rules.specs.Host.Takes.{diag_resets, host_waits, looks, host_resets_target, takes_up, unit_resets}
 use Rattle.mpt_rules.proofs.HostUp.{disk, host_up, puts_of, read, resetting, up_with, wrote}
 
 -- ---- a diagnostic reset is asked
 
 -- a post is in the outbox, and two lists wait
 abbrev busy : Host
-busy = record (resets_target host_up disk).part { wait_high = 0x000a ∷ []; wait_internal = request.Page 0x000b ∷ [] }
+busy = record (host_resets_target host_up disk).part { wait_high = 0x000a ∷ []; wait_internal = request.Page 0x000b ∷ [] }
 
 -- the post is taken out, and the keys and a read of HostDiagnostic follow
 diagnostic : puts_of (diag_resets busy).part ≡ wrote 0x04 0x0 ∷ wrote 0x04 0xF ∷ wrote 0x04 0x4 ∷ wrote 0x04 0xB ∷ wrote 0x04 0x2 ∷ wrote 0x04 0x7 ∷ wrote 0x04 0xD ∷ read 0x08 ∷ []
-unfolding goes_on
+unfolding turn_from
 diagnostic = refl
 
 diagnostic_mode : (diag_resets busy).part.mode ≡ state.Resetting
-unfolding goes_on
+unfolding turn_from
 diagnostic_mode = refl
 
 -- its request stays open
 diagnostic_open : slot_of (diag_resets busy).part.pool 257 ≡ Open (request.TargetReset disk)
-unfolding goes_on
+unfolding turn_from
 diagnostic_open = refl
 
 diagnostic_high : (diag_resets busy).part.wait_high ≡ []
-unfolding goes_on
+unfolding turn_from
 diagnostic_high = refl
 
 diagnostic_internal : (diag_resets busy).part.wait_internal ≡ []
-unfolding goes_on
+unfolding turn_from
 diagnostic_internal = refl
 
 diagnostic_asked : (diag_resets (record busy { asked = 0xffff_ffff })).part.asked ≡ 0
-unfolding goes_on
+unfolding turn_from
 diagnostic_asked = refl
 
 -- frames are returned until the write that begins the reset is in the outbox
 diagnostic_returning : (diag_resets busy).part.returning ≡ true
-unfolding goes_on
+unfolding turn_from
 diagnostic_returning = refl
 
 -- HostDiagnostic is unlocked: the next write begins the reset
@@ -69,21 +69,21 @@ abbrev unlocked : Host
 unlocked = record (resetting host_up) { stage = stage.DiagnosticReset; reading = true; machine = Some (record { stage = Awaits Unlocked; unsent = []; reply = [] }) }
 
 reset_written : puts_of (takes_up unlocked 0 (up.Value DIAG_WRITE_ENABLE)).part ≡ wrote 0x08 0x84 ∷ read 0x08 ∷ []
-unfolding goes_on
+unfolding turn_from
 reset_written = refl
 
 no_more_returns : (takes_up unlocked 0 (up.Value DIAG_WRITE_ENABLE)).part.returning ≡ false
-unfolding goes_on
+unfolding turn_from
 no_more_returns = refl
 
 -- ---- a message unit reset is asked: its first write begins it
 
 unit : puts_of (unit_resets host_up).part ≡ wrote 0x00 0x4000_0000 ∷ read 0x30 ∷ []
-unfolding goes_on
+unfolding turn_from
 unit = refl
 
 unit_returning : (unit_resets host_up).part.returning ≡ false
-unfolding goes_on
+unfolding turn_from
 unit_returning = refl
 
 -- ---- a reset is asked while a read is outstanding
@@ -93,23 +93,23 @@ asked_late = (unit_resets (looks host_up)).part
 
 -- it begins as the value comes, which is dropped
 late : puts_of asked_late ≡ read 0x00 ∷ []
-unfolding goes_on
+unfolding turn_from
 late = refl
 
 late_returning : asked_late.returning ≡ true
-unfolding goes_on
+unfolding turn_from
 late_returning = refl
 
 late_machine : asked_late.machine ≡ None
-unfolding goes_on
+unfolding turn_from
 late_machine = refl
 
 late_begins : puts_of (takes_up asked_late 0 (up.Value 0)).part ≡ read 0x00 ∷ wrote 0x00 0x4000_0000 ∷ read 0x30 ∷ []
-unfolding goes_on
+unfolding turn_from
 late_begins = refl
 
 late_begun : (takes_up asked_late 0 (up.Value 0)).part.returning ≡ false
-unfolding goes_on
+unfolding turn_from
 late_begun = refl
 
 -- ---- its end
@@ -144,15 +144,15 @@ waits marked =
 
 -- READY without the mark: the host waits on
 no_mark_yet : (takes_up (waits false) 0 (up.Value IOC_STATE_READY)).told ≡ []
-unfolding goes_on
+unfolding turn_from
 no_mark_yet = refl
 
 no_mark_yet_mode : (takes_up (waits false) 0 (up.Value IOC_STATE_READY)).part.mode ≡ state.Resetting
-unfolding goes_on
+unfolding turn_from
 no_mark_yet_mode = refl
 
 no_mark_yet_ready : (takes_up (waits false) 0 (up.Value IOC_STATE_READY)).part.door_ready ≡ true
-unfolding goes_on
+unfolding turn_from
 no_mark_yet_ready = refl
 
 no_mark_yet_waits : host_waits (record host_up { mode = state.Resetting; marks = false ∷ false ∷ []; door_ready = true }) ≡ true
@@ -160,11 +160,11 @@ no_mark_yet_waits = refl
 
 -- the mark without READY
 no_ready_yet : (takes_up (waits false) 1 (up.Mark 0)).part.marks ≡ false ∷ true ∷ []
-unfolding goes_on
+unfolding turn_from
 no_ready_yet = refl
 
 no_ready_yet_told : (takes_up (waits false) 1 (up.Mark 0)).told ≡ []
-unfolding goes_on
+unfolding turn_from
 no_ready_yet_told = refl
 
 -- READY after the mark, and the mark after READY
@@ -174,11 +174,11 @@ all_told =
     ∷ entry.TargetEnd 5 target.Reset ∷ entry.TargetEnd 4 target.Reset ∷ entry.ResetDone ∷ []
 
 done : (takes_up (waits true) 0 (up.Value IOC_STATE_READY)).told ≡ all_told
-unfolding goes_on ioc_facts_layout ioc_facts_values
+unfolding turn_from ioc_facts_layout ioc_facts_values
 done = simp (entries-from_sorted nat_cmp cmds_open tt, entries-from_sorted nat_cmp aborts_open tt) refl
 
 done_by_mark : (takes_up (record (waits false) { reading = false; machine = None; door_ready = true }) 1 (up.Mark 0)).told ≡ all_told
-unfolding goes_on ioc_facts_layout ioc_facts_values
+unfolding turn_from ioc_facts_layout ioc_facts_values
 done_by_mark = simp (entries-from_sorted nat_cmp cmds_open tt, entries-from_sorted nat_cmp aborts_open tt) refl
 
 abbrev after : Host
@@ -186,34 +186,34 @@ after = (takes_up (waits true) 0 (up.Value IOC_STATE_READY)).part
 
 -- the start goes on with IOC Facts
 done_mode : after.mode ≡ state.Starting
-unfolding goes_on ioc_facts_layout ioc_facts_values
+unfolding turn_from ioc_facts_layout ioc_facts_values
 done_mode = refl
 
 done_puts : puts_of after ≡ read 0x00 ∷ []
-unfolding goes_on ioc_facts_layout ioc_facts_values
+unfolding turn_from ioc_facts_layout ioc_facts_values
 done_puts = refl
 
 done_stage : after.stage ≡ stage.Facts
-unfolding goes_on ioc_facts_layout ioc_facts_values
+unfolding turn_from ioc_facts_layout ioc_facts_values
 done_stage = refl
 
 done_pool : after.pool ≡ all_free
-unfolding goes_on ioc_facts_layout ioc_facts_values
+unfolding turn_from ioc_facts_layout ioc_facts_values
 done_pool = refl
 
 done_phase : phase_at after.phases 0x0009 ≡ phase.Absent
-unfolding goes_on ioc_facts_layout ioc_facts_values
+unfolding turn_from ioc_facts_layout ioc_facts_values
 done_phase = refl
 
 done_frame : slice_index_or after.frames 0 Away ≡ Held
-unfolding goes_on ioc_facts_layout ioc_facts_values
+unfolding turn_from ioc_facts_layout ioc_facts_values
 done_frame = refl
 
 done_returning : after.returning ≡ true
-unfolding goes_on ioc_facts_layout ioc_facts_values
+unfolding turn_from ioc_facts_layout ioc_facts_values
 done_returning = refl
 
 -- with one queue READY alone ends it
 done_without_marks : (takes_up (record (waits false) { marks = false ∷ []; indices = 0 ∷ [] }) 0 (up.Value IOC_STATE_READY)).part.mode ≡ state.Starting
-unfolding goes_on ioc_facts_layout ioc_facts_values
+unfolding turn_from ioc_facts_layout ioc_facts_values
 done_without_marks = refl

@@ -11,16 +11,16 @@ use Rattle.mpt_trace.specs.declared.outcome.Outcome.TheVariants as outcome
 use Rattle.std.proofs.Common.{ap, true, false}
 use Rattle.std.specs.Cmp.{nat_cmp_total}
 use Rattle.std.specs.Ordering.{nat_cmp}
-use Rattle.mpt_rules.specs.HostParts.{Host}
-use Rattle.mpt_rules.specs.IocParts.{Ioc}
+use Rattle.mpt_rules.specs.Host.Parts.{Host}
+use Rattle.mpt_rules.specs.Ioc.Parts.{Ioc}
 use Rattle.std.specs.Prelude.{◌++◌}
 use Rattle.mpt_rules.specs.declared.said.Said.{Said}
-use Rattle.mpt_rules.specs.World.{World}
-use Rattle.mpt_rules.specs.Cases.{Case, Chosen, Told}
+use Rattle.mpt_rules.specs.World.State.{World}
+use Rattle.mpt_rules.specs.World.Cases.{Case, Chosen, Told}
 use Rattle.mpt_rules.proofs.SchedulePieces.{Goes, and_then, answers, rounds, tells}
 use Rattle.mpt_rules.proofs.WorldExampleParts.{A, one_disk}
-use Rattle.mpt_rules.specs.FabricParts.{Fabric}
-use Rattle.mpt_rules.specs.HostParts.{Cmd}
+use Rattle.mpt_rules.specs.Fabric.Parts.{Fabric}
+use Rattle.mpt_rules.specs.Host.Parts.{Cmd}
 use Rattle.std.specs.FinMap.{entries-insert, put}
 use Rattle.std.proofs.Common.{ℕ, Bool}
 use Rattle.std.specs.Prelude.{filter, map as each}
@@ -40,9 +40,9 @@ use Rattle.mpt_trace.specs.declared.item.Down.TheVariants as down
 use Rattle.mpt_trace.specs.declared.item.Out.{Out}
 use Rattle.mpt_trace.specs.declared.item.Out.TheVariants as out
 use Rattle.mpt_rules.specs.declared.stage.Stage.TheVariants as stage
-use Rattle.mpt_rules.specs.HostDoorbell.{begins_facts, goes_on}
-use Rattle.mpt_rules.specs.HostResets.{is_anew, reset_abort, reset_answer}
-use Rattle.mpt_rules.specs.IocParts.{new_ioc}
+use Rattle.mpt_rules.specs.Host.Doorbell.{begins_facts, turn_from}
+use Rattle.mpt_rules.specs.Host.Resets.{renewed, reset_abort, reset_answer}
+use Rattle.mpt_rules.specs.Ioc.Parts.{new_ioc}
 use Rattle.ioc_msgs.specs.IocFacts.{ioc_facts_layout, ioc_facts_values}
 use Rattle.mpt_rules.proofs.SchedulePieces.{door_after, no_entries}
 use Rattle.mpt_rules.proofs.WritesAtTheDisk.{cmd, two_cmds, open_host, sent_ioc, fabric_with, world_of, submits, writes_accepted, sends, writes_sent, one_run, first_run, first_runs}
@@ -74,7 +74,7 @@ unlocks = Told input.Reset ∷ tells 8 ++ answers 1
 
 -- nothing is told yet
 reset_asked : Goes first_run unlocks [] unlocked
-unfolding goes_on
+unfolding turn_from
 reset_asked = record { shows = refl; leaves = refl }
 
 -- ---- the controller is reset, and forgets all
@@ -129,7 +129,7 @@ locks = Chosen choice.HostTake ∷ tells 1 ++ answers 1 ++ tells 3 ++ Chosen cho
 
 -- nothing is told of it
 reset_over : Goes linked locks [] locked
-unfolding goes_on
+unfolding turn_from
 reset_over = record { shows = refl; leaves = refl }
 
 -- ---- it reads READY: both writes are answered as reset
@@ -148,11 +148,11 @@ told_of cmds aborts =
 -- the host begins with IOC Facts, and has no identifier, frame or handle taken
 abbrev pub restarting : World
 restarting =
-    world_of (begins_facts (is_anew (record open_host { asked = 1 }))) (reset_ioc (door_in state.Ready 0 false) [] []) unlinked
+    world_of (begins_facts (renewed (record open_host { asked = 1 }))) (reset_ioc (door_in state.Ready 0 false) [] []) unlinked
 
 -- both are told as reset, also the one that ran, and then the reset as done
 both_answered : Goes locked (Chosen choice.HostTake ∷ []) (entry.Answer 1 outcome.Reset ∷ entry.Answer 2 outcome.Reset ∷ entry.ResetDone ∷ []) restarting
-unfolding goes_on ioc_facts_layout ioc_facts_values
+unfolding turn_from ioc_facts_layout ioc_facts_values
 both_answered =
     record {
       shows = ap (λ cmds. told_of cmds (map.entries open_host.aborts)) two_entries ∙ ap (told_of ((1, cmd 1) ∷ (2, cmd 2) ∷ [])) no_entries;

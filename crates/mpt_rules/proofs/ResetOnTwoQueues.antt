@@ -6,7 +6,7 @@ use Rattle.mpi_layout.specs.Rows.{field}
 use Rattle.std.proofs.Common.{◌∙◌}
 use Rattle.mpt_rules.specs.declared.request.Request.{Request}
 use Rattle.smid_pool.specs.Pool.{Free, Open, Slot, all_free, with_slot}
-use Rattle.mpt_rules.specs.HostReplies.{slot_after}
+use Rattle.mpt_rules.specs.Host.Replies.{slot_after}
 use Rattle.std.specs.FinMap.{get-empty, get-insert}
 use Rattle.mpt_trace.specs.declared.choice.Choice.TheVariants as choice
 use Rattle.mpt_trace.specs.declared.entry.Entry.TheVariants as entry
@@ -17,16 +17,16 @@ use Rattle.mpt_rules.specs.declared.request.Request.TheVariants as request
 use Rattle.std.proofs.Common.{ap, true, false}
 use Rattle.std.specs.Cmp.{nat_cmp_total}
 use Rattle.std.specs.Ordering.{nat_cmp}
-use Rattle.mpt_rules.specs.HostParts.{Host}
-use Rattle.mpt_rules.specs.IocParts.{Ioc}
+use Rattle.mpt_rules.specs.Host.Parts.{Host}
+use Rattle.mpt_rules.specs.Ioc.Parts.{Ioc}
 use Rattle.std.specs.Prelude.{◌++◌}
 use Rattle.mpt_rules.specs.declared.said.Said.{Said}
-use Rattle.mpt_rules.specs.World.{World}
-use Rattle.mpt_rules.specs.Cases.{Case, Chosen, Told}
+use Rattle.mpt_rules.specs.World.State.{World}
+use Rattle.mpt_rules.specs.World.Cases.{Case, Chosen, Told}
 use Rattle.mpt_rules.proofs.SchedulePieces.{Goes, and_then, answers, rounds, tells}
 use Rattle.mpt_rules.proofs.WorldExampleParts.{A, one_disk}
 use Rattle.mpt_rules.specs.declared.said.Said.TheVariants as said
-use Rattle.mpt_rules.specs.HostParts.{Cmd}
+use Rattle.mpt_rules.specs.Host.Parts.{Cmd}
 use Rattle.std.specs.FinMap.{FinMap}
 use Rattle.std.specs.FinMap.{entries-insert, put}
 use Rattle.std.proofs.Common.{ℕ}
@@ -43,13 +43,13 @@ use Rattle.mpt_trace.specs.declared.item.Down.TheVariants as down
 use Rattle.mpt_trace.specs.declared.item.Out.{Out}
 use Rattle.mpt_trace.specs.declared.item.Out.TheVariants as out
 use Rattle.mpt_rules.specs.declared.stage.Stage.TheVariants as stage
-use Rattle.mpt_rules.specs.HostDoorbell.{begins_facts, goes_on}
-use Rattle.mpt_rules.specs.HostResets.{is_anew}
-use Rattle.mpt_rules.specs.IocParts.{new_ioc}
+use Rattle.mpt_rules.specs.Host.Doorbell.{begins_facts, turn_from}
+use Rattle.mpt_rules.specs.Host.Resets.{renewed}
+use Rattle.mpt_rules.specs.Ioc.Parts.{new_ioc}
 use Rattle.ioc_msgs.specs.IocFacts.{ioc_facts_layout, ioc_facts_values}
 use Rattle.mpt_rules.proofs.SchedulePieces.{door_after, no_entries, remove_inserted}
 use Rattle.mpi_doorbell.specs.declared.registers.TheConstants.{REPLY_POST_HOST_INDEX}
-use Rattle.mpt_rules.specs.HostReplies.{index_value}
+use Rattle.mpt_rules.specs.Host.Replies.{index_value}
 use Rattle.mpt_rules.proofs.ResetInMidFlight.{door_in, told_of, unlinked}
 use Rattle.mpt_rules.proofs.WritesAtTheDisk.{cmd, two_cmds}
 use Rattle.mpt_rules.proofs.CommandsOnTwoQueues.{open_host, sent_ioc, one_run, world_of, second_reply, submits, commands_accepted, second_run, runs, second_runs}
@@ -84,7 +84,7 @@ unlocks = Told input.Reset ∷ tells 8 ++ answers 1
 
 -- nothing is told yet
 reset_asked : Goes second_run unlocks [] unlocked
-unfolding goes_on
+unfolding turn_from
 reset_asked = record { shows = refl; leaves = refl }
 
 -- ---- the controller is reset: its mark goes behind the reply
@@ -136,7 +136,7 @@ two_without = remove_inserted one_cmd 2 (cmd 2) (get-insert nat_cmp_total map.em
 -- the command that the reply names is done
 the_reply_comes_before_the_mark : Goes linked (Chosen choice.HostTake ∷ Chosen (choice.HostTakeOn 1) ∷ [])
     (entry.Answer 2 (outcome.Done (record { status = 0; payload = []; sense = [] })) ∷ []) (replied one_cmd Free)
-unfolding field goes_on
+unfolding field turn_from
 the_reply_comes_before_the_mark =
     record {
       shows = refl;
@@ -161,7 +161,7 @@ locks = tells 2 ++ answers 1 ++ Chosen (choice.HostTakeOn 1) ∷ tells 3 ++ Chos
 
 -- nothing is told of it
 mark_taken : Goes (replied one_cmd Free) locks [] marked
-unfolding goes_on
+unfolding turn_from
 mark_taken = record { shows = refl; leaves = refl }
 
 -- ---- the host reads READY: the other command is answered as reset
@@ -173,11 +173,11 @@ one_entry = entries-insert nat_cmp_total map.empty 1 (cmd 1) ∙ ap (put nat_cmp
 -- the host begins with IOC Facts, and has no identifier, frame or handle taken
 abbrev pub restarting_on_two : World
 restarting_on_two =
-    world_of (begins_facts (is_anew (record open_host { asked = 1; indices = 0 ∷ 1 ∷ []; marks = false ∷ true ∷ [] }))) (reset_ioc told_door [] [] []) unlinked [] []
+    world_of (begins_facts (renewed (record open_host { asked = 1; indices = 0 ∷ 1 ∷ []; marks = false ∷ true ∷ [] }))) (reset_ioc told_door [] [] []) unlinked [] []
 
 -- it is told as reset, and then the reset as done
 one_answered : Goes marked (Chosen choice.HostTake ∷ []) (entry.Answer 1 outcome.Reset ∷ entry.ResetDone ∷ []) restarting_on_two
-unfolding goes_on ioc_facts_layout ioc_facts_values
+unfolding turn_from ioc_facts_layout ioc_facts_values
 one_answered =
     record {
       shows = ap (λ cmds. told_of cmds (map.entries open_host.aborts)) one_entry ∙ ap (told_of ((1, cmd 1) ∷ [])) no_entries;

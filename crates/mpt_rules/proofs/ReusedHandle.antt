@@ -4,7 +4,7 @@ use Rattle.std.specs.FinSet.{members}
 use Rattle.mpi_layout.specs.Rows.{field}
 use Rattle.mpt_messages.specs.declared.host_ask.HostAsk.TheVariants as ask
 use Rattle.mpt_trace.specs.Command.{command_named}
-use Rattle.mpt_trace.specs.Fields.{changes_from}
+use Rattle.mpt_wire.specs.Messages.Fields.{changes_from}
 use Rattle.event_msgs.specs.EventAck.{event_ack_layout, event_ack_values}
 use Rattle.event_msgs.specs.EventReply.{event_reply_layout, event_reply_values}
 use Rattle.event_msgs.specs.Topology.{topology_layout, topology_values}
@@ -14,9 +14,9 @@ use Rattle.scsi_msgs.specs.ScsiIo.{scsi_io_layout, scsi_io_values}
 use Rattle.config_pages.specs.ConfigAsk.{config_ask_layout, config_ask_values}
 use Rattle.config_pages.specs.ConfigReply.{config_reply_layout, config_reply_values}
 use Rattle.config_pages.specs.DevicePage0.{device_page0_layout, device_page0_values}
-use Rattle.mpt_rules.specs.IocConfiguration.{ends_config, page_bytes}
+use Rattle.mpt_rules.specs.Ioc.Configuration.{ends_config, page_bytes}
 use Rattle.smid_pool.specs.Pool.{all_free}
-use Rattle.mpt_trace.specs.Fields.{success_descriptor}
+use Rattle.mpt_wire.specs.Messages.Fields.{success_descriptor}
 use Rattle.event_msgs.specs.EventAckReply.{event_ack_reply_layout, event_ack_reply_values}
 use Rattle.mpt_trace.specs.declared.choice.Choice.TheVariants as choice
 use Rattle.mpt_trace.specs.declared.command_form.CommandForm.{CommandForm}
@@ -29,15 +29,15 @@ use Rattle.mpt_rules.specs.declared.request.Request.TheVariants as request
 use Rattle.std.proofs.Common.{ap}
 use Rattle.std.specs.FinSet.{contains-insert}
 use Rattle.std.specs.Cmp.{nat_cmp_total}
-use Rattle.mpt_rules.specs.HostParts.{Host}
-use Rattle.mpt_rules.specs.HostInputs.{accepts}
-use Rattle.mpt_rules.specs.HostRemoval.{first_not_absent, hears_changes}
+use Rattle.mpt_rules.specs.Host.Parts.{Host}
+use Rattle.mpt_rules.specs.Host.Inputs.{with_accepted}
+use Rattle.mpt_rules.specs.Host.Removal.{first_not_absent, hears_changes}
 use Rattle.std.specs.Prelude.{◌++◌}
 use Rattle.std.specs.FinSet as set
 use Rattle.removal.specs.declared.phase.Phase.TheVariants as phase
 use Rattle.mpt_rules.specs.declared.status.TheConstants.{IOC_STATUS_SUCCESS}
-use Rattle.mpt_rules.specs.World.{World}
-use Rattle.mpt_rules.specs.Cases.{Case, Chosen, run}
+use Rattle.mpt_rules.specs.World.State.{World}
+use Rattle.mpt_rules.specs.World.Cases.{Case, Chosen, run}
 use Rattle.mpt_rules.proofs.HandleRemoved.{disk_removed, disks, removal}
 use Rattle.mpt_rules.proofs.SchedulePieces.{Goes, ack_post, ack_reply, acked, and_then, answers, default_post, rounds, tells}
 use Rattle.mpt_rules.proofs.WorldExampleParts.{A, B, shown, submit, up_world}
@@ -108,7 +108,7 @@ reads = form.Read 0 1
 
 -- the host has it open
 abbrev read_open : World
-read_open = record b_ready { host = accepts b_ready.host 4 B (command_named reads) 0x0009 1 }
+read_open = record b_ready { host = with_accepted b_ready.host 4 B (command_named reads) 0x0009 1 }
 
 -- it gets the identifier that the first write had
 read_accepted : Goes b_ready (submit 4 B reads ∷ []) (entry.Accept 4 B 1 ∷ []) read_open

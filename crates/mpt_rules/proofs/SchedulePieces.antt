@@ -10,9 +10,9 @@ use Rattle.mpt_trace.specs.declared.choice.Choice.{Choice}
 use Rattle.mpt_trace.specs.declared.choice.Choice.TheVariants as choice
 use Rattle.mpt_trace.specs.declared.entry.Entry.{Entry}
 use Rattle.mpt_rules.specs.declared.host_frame.HostFrame.TheVariants as frame
-use Rattle.mpt_rules.specs.HostParts.{Host}
-use Rattle.mpt_rules.specs.HostReplies.{takes_entry}
-use Rattle.mpt_rules.specs.HostReturns.{has_frame}
+use Rattle.mpt_rules.specs.Host.Parts.{Host}
+use Rattle.mpt_rules.specs.Host.Replies.{takes_entry}
+use Rattle.mpt_rules.specs.Host.Returns.{with_frame_back}
 use Rattle.std.specs.FinSet as set
 use Rattle.std.specs.FinMap as map
 use Rattle.std.specs.FinMap.{empty_of_len, entries-from_sorted, get-insert, get-remove, get_tied, len-entries, nat_cmp-IsAntisymmetric, same_map}
@@ -22,13 +22,13 @@ use Rattle.std.specs.Ordering.{nat_cmp, eq_by_cmp, is_eq}
 use Rattle.std.proofs.Common.{None, Some, length, cond}
 use Rattle.mpt_messages.specs.Function.{byte_of}
 use Rattle.mpt_messages.specs.declared.function.Function.TheVariants as function
-use Rattle.mpt_trace.specs.Fields.{acked_context_in, post_descriptor, remove_device, topology_change_list}
+use Rattle.mpt_wire.specs.Messages.Fields.{acked_context_in, post_descriptor, remove_device, topology_change_list}
 use Rattle.mpt_rules.specs.declared.post.Post.{Post}
 use Rattle.mpt_rules.specs.declared.status.TheConstants.{IOC_STATUS_SUCCESS}
-use Rattle.mpt_rules.specs.IocParts.{Ioc}
-use Rattle.mpt_rules.specs.IocReplies.{framed}
-use Rattle.mpt_rules.specs.IocRequests.{ends_plainly, is_of_event, works_ack}
-use Rattle.mpt_rules.specs.IocTables.{in_state}
+use Rattle.mpt_rules.specs.Ioc.Parts.{Ioc}
+use Rattle.mpt_rules.specs.Ioc.Replies.{framed}
+use Rattle.mpt_rules.specs.Ioc.Requests.{ends_plainly, is_of_event, works_ack}
+use Rattle.mpt_rules.specs.Ioc.Tables.{in_state}
 use Rattle.mpi_rings.specs.declared.request_descriptor.PostKind.TheVariants as kind
 use Rattle.mpt_messages.specs.declared.host_ask.HostAsk.{HostAsk}
 use Rattle.mpt_messages.specs.declared.host_ask.HostAsk.TheVariants as ask
@@ -39,9 +39,9 @@ use Rattle.removal.specs.declared.phase.Phase.{Phase}
 use Rattle.smid_pool.specs.Pool.{Slot}
 use Rattle.mpt_rules.specs.declared.request.Request.{Request}
 use Rattle.mpt_rules.specs.declared.said.Said.{Said}
-use Rattle.mpt_rules.specs.HostPosts.{command_asked, frame_asked}
-use Rattle.mpt_rules.specs.World.{World}
-use Rattle.mpt_rules.specs.Cases.{Case, Chosen, entries, happens, run, trace}
+use Rattle.mpt_rules.specs.Host.Posts.{command_asked, frame_asked}
+use Rattle.mpt_rules.specs.World.State.{World}
+use Rattle.mpt_rules.specs.World.Cases.{Case, Chosen, entries, happens, run, trace}
 use Rattle.mpt_rules.proofs.WorldExampleParts.{shown, up_host, up_ioc}
 
 -- from a world these cases show these entries, and leave that world
@@ -115,7 +115,7 @@ told w replies ring =
 
 -- the host has taken a reply that came in this reply frame on queue 0
 abbrev pub took : Host → ℕ → Host
-took host f = takes_entry (has_frame host f) 0
+took host f = takes_entry (with_frame_back host f) 0
 
 -- the host with these identifiers and these phases of the handles, once it has returned so many frames and taken so many replies
 abbrev pub host_at : List (Slot Request) → List Phase → ℕ → ℕ → Host

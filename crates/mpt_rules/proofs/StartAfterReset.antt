@@ -25,7 +25,7 @@ use Rattle.mpt_messages.specs.Function.{byte_of}
 use Rattle.mpt_messages.specs.declared.function.Function.TheVariants as function
 use Rattle.mpt_messages.specs.declared.host_ask.HostAsk.TheVariants as ask
 use Rattle.mpt_messages.specs.declared.ioc_reply.IocReply.TheVariants as reply
-use Rattle.mpt_trace.specs.Fields.{changes_from, topology_change_list}
+use Rattle.mpt_wire.specs.Messages.Fields.{changes_from, topology_change_list}
 use Rattle.mpt_trace.specs.declared.entry.Entry.TheVariants as entry
 use Rattle.mpt_trace.specs.declared.host_state.HostState.{HostState}
 use Rattle.mpt_trace.specs.declared.host_state.HostState.TheVariants as mode
@@ -37,19 +37,19 @@ use Rattle.mpt_rules.specs.declared.request.Request.{Request}
 use Rattle.mpt_rules.specs.declared.request.Request.TheVariants as request
 use Rattle.mpt_rules.specs.declared.said.Said.{Said}
 use Rattle.mpt_rules.specs.declared.status.TheConstants.{IOC_STATUS_SUCCESS}
-use Rattle.mpt_rules.specs.FabricDisks.{places_from}
-use Rattle.mpt_rules.specs.HostRemoval.{first_not_absent, hears_changes}
-use Rattle.mpt_rules.specs.IocConfiguration.{ends_config, page_bytes}
-use Rattle.mpt_rules.specs.IocParts.{Ioc}
-use Rattle.mpt_rules.specs.IocReplies.{framed}
-use Rattle.mpt_rules.specs.IocTables.{with_binding}
+use Rattle.mpt_rules.specs.Fabric.Disks.{places_from}
+use Rattle.mpt_rules.specs.Host.Removal.{first_not_absent, hears_changes}
+use Rattle.mpt_rules.specs.Ioc.Configuration.{ends_config, page_bytes}
+use Rattle.mpt_rules.specs.Ioc.Parts.{Ioc}
+use Rattle.mpt_rules.specs.Ioc.Replies.{framed}
+use Rattle.mpt_rules.specs.Ioc.Tables.{with_binding}
 use Rattle.mpi_layout.specs.Rows.{field}
 use Rattle.mpi_doorbell.specs.declared.state.IocState.TheVariants as state
 use Rattle.mpt_trace.specs.declared.choice.Choice.TheVariants as choice
-use Rattle.mpt_rules.specs.HostParts.{Host}
-use Rattle.mpt_rules.specs.HostDoorbell.{goes_on}
-use Rattle.mpt_rules.specs.World.{World}
-use Rattle.mpt_rules.specs.Cases.{Case, Chosen}
+use Rattle.mpt_rules.specs.Host.Parts.{Host}
+use Rattle.mpt_rules.specs.Host.Doorbell.{turn_from}
+use Rattle.mpt_rules.specs.World.State.{World}
+use Rattle.mpt_rules.specs.World.Cases.{Case, Chosen}
 use Rattle.mpt_rules.proofs.ResetInMidFlight.{reset_cases, reset_in_mid_flight, restarting}
 use Rattle.mpt_rules.proofs.ResetOnTwoQueues.{reset_cases_on_two, reset_with_two_queues, restarting_on_two}
 use Rattle.mpt_rules.proofs.SchedulePieces.{Goes, ack_post, ack_reply, acked, and_then, answers, default_post, rounds, tells}
@@ -168,27 +168,27 @@ start_cases =
 
 -- the frames are returned, and nothing is told of it
 frames_returned : Goes (init_done restarting) (tells 66) [] (events_asked restarting)
-unfolding field goes_on event_ask_layout event_ask_values
+unfolding field turn_from event_ask_layout event_ask_values
 frames_returned = record { shows = refl; leaves = refl }
 
 -- the event notification is answered, and the port enable asked
 events_let_through : Goes (events_asked restarting) (Chosen choice.IocNormal ∷ answers 1 ++ tells 3) [] (enable_asked restarting)
-unfolding field goes_on event_ask_layout event_ask_values event_reply_layout event_reply_values port_enable_layout port_enable_values
+unfolding field turn_from event_ask_layout event_ask_values event_reply_layout event_reply_values port_enable_layout port_enable_values
 events_let_through = record { shows = refl; leaves = refl }
 
 -- the fabric is on again, and names the disk as plugged once
 disk_bound : Goes (enable_asked restarting) finds (entry.Bind 0x0009 A 1 ∷ []) (disk_found restarting)
-unfolding field goes_on port_enable_layout port_enable_values places_from
+unfolding field turn_from port_enable_layout port_enable_values places_from
 disk_bound = record { shows = refl; leaves = refl }
 
 -- the port enable is answered, so the host is up
 host_up : Goes (disk_found restarting) (answers 2 ++ tells 6) (entry.HostUp ∷ []) (up_again restarting)
-unfolding field goes_on changes_from event_reply_layout event_reply_values topology_layout topology_values topology_entry_layout topology_entry_values event_ack_layout event_ack_values config_ask_layout config_ask_values port_enable_reply_layout port_enable_reply_values first_not_absent hears_changes
+unfolding field turn_from changes_from event_reply_layout event_reply_values topology_layout topology_values topology_entry_layout topology_entry_values event_ack_layout event_ack_values config_ask_layout config_ask_values port_enable_reply_layout port_enable_reply_values first_not_absent hears_changes
 host_up = record { shows = refl; leaves = refl }
 
 -- the event was not acknowledged before
 event_acknowledged : Goes (up_again restarting) (Chosen choice.IocNormal ∷ []) [] (event_acked restarting)
-unfolding field goes_on event_ack_layout event_ack_values
+unfolding field turn_from event_ack_layout event_ack_values
 event_acknowledged =
     record {
       shows = refl;
@@ -199,12 +199,12 @@ event_acknowledged =
 
 -- the page is the disk's
 page_answered : Goes (event_acked restarting) (Chosen choice.IocNormal ∷ []) [] (page_read restarting)
-unfolding field goes_on config_ask_layout config_ask_values config_reply_layout config_reply_values device_page0_layout device_page0_values
+unfolding field turn_from config_ask_layout config_ask_values config_reply_layout config_reply_values device_page0_layout device_page0_values
 page_answered = record { shows = refl; leaves = refl }
 
 -- the host tells the disk as ready
 disk_ready : Goes (page_read restarting) (answers 2 ++ tells 4) (entry.Ready A 0x0009 ∷ []) (ready_again restarting)
-unfolding field goes_on event_ack_reply_layout event_ack_reply_values config_ask_layout config_ask_values config_reply_layout config_reply_values device_page0_layout device_page0_values
+unfolding field turn_from event_ack_reply_layout event_ack_reply_values config_ask_layout config_ask_values config_reply_layout config_reply_values device_page0_layout device_page0_values
 disk_ready = record { shows = refl; leaves = refl }
 
 -- what a short report shows of it, and of the reset before
@@ -219,27 +219,27 @@ the_disk_is_ready_after_the_reset =
 
 -- the frames are returned, and nothing is told of it
 frames_returned_on_two : Goes (init_done restarting_on_two) (tells 66) [] (events_asked restarting_on_two)
-unfolding field goes_on event_ask_layout event_ask_values
+unfolding field turn_from event_ask_layout event_ask_values
 frames_returned_on_two = record { shows = refl; leaves = refl }
 
 -- the event notification is answered, and the port enable asked
 events_let_through_on_two : Goes (events_asked restarting_on_two) (Chosen choice.IocNormal ∷ answers 1 ++ tells 3) [] (enable_asked restarting_on_two)
-unfolding field goes_on event_ask_layout event_ask_values event_reply_layout event_reply_values port_enable_layout port_enable_values
+unfolding field turn_from event_ask_layout event_ask_values event_reply_layout event_reply_values port_enable_layout port_enable_values
 events_let_through_on_two = record { shows = refl; leaves = refl }
 
 -- the fabric is on again, and names the disk as plugged once
 disk_bound_on_two : Goes (enable_asked restarting_on_two) finds (entry.Bind 0x0009 A 1 ∷ []) (disk_found restarting_on_two)
-unfolding field goes_on port_enable_layout port_enable_values places_from
+unfolding field turn_from port_enable_layout port_enable_values places_from
 disk_bound_on_two = record { shows = refl; leaves = refl }
 
 -- the port enable is answered, so the host is up
 host_up_on_two : Goes (disk_found restarting_on_two) (answers 2 ++ tells 6) (entry.HostUp ∷ []) (up_again restarting_on_two)
-unfolding field goes_on changes_from event_reply_layout event_reply_values topology_layout topology_values topology_entry_layout topology_entry_values event_ack_layout event_ack_values config_ask_layout config_ask_values port_enable_reply_layout port_enable_reply_values first_not_absent hears_changes
+unfolding field turn_from changes_from event_reply_layout event_reply_values topology_layout topology_values topology_entry_layout topology_entry_values event_ack_layout event_ack_values config_ask_layout config_ask_values port_enable_reply_layout port_enable_reply_values first_not_absent hears_changes
 host_up_on_two = record { shows = refl; leaves = refl }
 
 -- the event was not acknowledged before
 event_acknowledged_on_two : Goes (up_again restarting_on_two) (Chosen choice.IocNormal ∷ []) [] (event_acked restarting_on_two)
-unfolding field goes_on event_ack_layout event_ack_values
+unfolding field turn_from event_ack_layout event_ack_values
 event_acknowledged_on_two =
     record {
       shows = refl;
@@ -250,12 +250,12 @@ event_acknowledged_on_two =
 
 -- the page is the disk's
 page_answered_on_two : Goes (event_acked restarting_on_two) (Chosen choice.IocNormal ∷ []) [] (page_read restarting_on_two)
-unfolding field goes_on config_ask_layout config_ask_values config_reply_layout config_reply_values device_page0_layout device_page0_values
+unfolding field turn_from config_ask_layout config_ask_values config_reply_layout config_reply_values device_page0_layout device_page0_values
 page_answered_on_two = record { shows = refl; leaves = refl }
 
 -- the host tells the disk as ready
 disk_ready_on_two : Goes (page_read restarting_on_two) (answers 2 ++ tells 4) (entry.Ready A 0x0009 ∷ []) (ready_again restarting_on_two)
-unfolding field goes_on event_ack_reply_layout event_ack_reply_values config_ask_layout config_ask_values config_reply_layout config_reply_values device_page0_layout device_page0_values
+unfolding field turn_from event_ack_reply_layout event_ack_reply_values config_ask_layout config_ask_values config_reply_layout config_reply_values device_page0_layout device_page0_values
 disk_ready_on_two = record { shows = refl; leaves = refl }
 
 -- what a short report shows of it, and of the reset before

@@ -10,7 +10,7 @@ use Rattle.scsi_disk.specs.Operation.{operation_of}
 use Rattle.scsi_msgs.specs.ScsiIo.{scsi_io_layout, scsi_io_values}
 use Rattle.mpt_rules.specs.declared.request.Request.{Request}
 use Rattle.smid_pool.specs.Pool.{Open, Slot, all_free, with_slot}
-use Rattle.mpt_rules.specs.HostReplies.{slot_after}
+use Rattle.mpt_rules.specs.Host.Replies.{slot_after}
 use Rattle.std.specs.FinMap.{get-insert}
 use Rattle.scsi_msgs.specs.TaskReply.{task_reply_layout, task_reply_values}
 use Rattle.scsi_msgs.specs.ScsiReply.{scsi_reply_layout, scsi_reply_values}
@@ -25,9 +25,9 @@ use Rattle.mpt_rules.specs.declared.request.Request.TheVariants as request
 use Rattle.std.proofs.Common.{ap}
 use Rattle.std.specs.Cmp.{nat_cmp_total}
 use Rattle.std.specs.Ordering.{nat_cmp}
-use Rattle.mpt_rules.specs.HostParts.{Host}
-use Rattle.mpt_rules.specs.HostInputs.{accepts}
-use Rattle.mpt_rules.specs.IocParts.{Ioc}
+use Rattle.mpt_rules.specs.Host.Parts.{Host}
+use Rattle.mpt_rules.specs.Host.Inputs.{with_accepted}
+use Rattle.mpt_rules.specs.Ioc.Parts.{Ioc}
 use Rattle.std.specs.Prelude.{◌++◌}
 use Rattle.std.specs.List.{range_with_len}
 use Rattle.std.specs.FinSet as set
@@ -36,20 +36,20 @@ use Rattle.removal.specs.Handles.{all_absent, with_phase}
 use Rattle.removal.specs.declared.phase.Phase.TheVariants as phase
 use Rattle.mpt_rules.specs.declared.status.TheConstants.{IOC_STATUS_SUCCESS}
 use Rattle.mpt_rules.specs.declared.said.Said.{Said}
-use Rattle.mpt_rules.specs.World.{World}
-use Rattle.mpt_rules.specs.Cases.{Case, Chosen, Told}
+use Rattle.mpt_rules.specs.World.State.{World}
+use Rattle.mpt_rules.specs.World.Cases.{Case, Chosen, Told}
 use Rattle.mpt_rules.proofs.SchedulePieces.{Goes, and_then, answers, command_post, host_at, ioc_at, tells, took}
 use Rattle.mpt_rules.proofs.WorldExampleParts.{A, one_disk, submit, up_host, up_ioc}
-use Rattle.mpt_rules.specs.IocReplies.{framed, task_ended}
-use Rattle.mpt_rules.specs.HostParts.{Cmd}
+use Rattle.mpt_rules.specs.Ioc.Replies.{framed, task_ended}
+use Rattle.mpt_rules.specs.Host.Parts.{Cmd}
 use Rattle.std.specs.FinMap.{FinMap}
-use Rattle.mpt_trace.specs.Fields.{abort_task}
-use Rattle.mpt_rules.specs.HostInputs.{asks_abort}
+use Rattle.mpt_wire.specs.Messages.Fields.{abort_task}
+use Rattle.mpt_rules.specs.Host.Inputs.{with_abort_asked}
 use Rattle.smid_pool.specs.Pool.{Parked}
 use Rattle.mpt_trace.specs.declared.outcome.AbortOutcome.TheVariants as abort
 use Rattle.mpt_trace.specs.declared.refusal.Refusal.TheVariants as refusal
 use Rattle.mpt_trace.specs.declared.refusal.RefusedCall.TheVariants as call
-use Rattle.mpt_rules.specs.IocReplies.{scsi_ended}
+use Rattle.mpt_rules.specs.Ioc.Replies.{scsi_ended}
 use Rattle.mpt_rules.specs.declared.status.TheConstants.{IOC_STATUS_SCSI_TASK_TERMINATED}
 
 -- ---- the worlds of this schedule
@@ -87,7 +87,7 @@ write = form.Write 0 1 0x11
 
 -- the host has it open, and its post in its outbox
 abbrev pub write_open : World
-write_open = world_of (accepts (up_host 1) 1 A (command_named write) 0x0009 1) (up_ioc 1)
+write_open = world_of (with_accepted (up_host 1) 1 A (command_named write) 0x0009 1) (up_ioc 1)
 
 -- it gets the least identifier
 write_accepted : Goes (one_disk 1) (submit 1 A write ∷ []) (entry.Accept 1 A 1 ∷ []) write_open
@@ -111,7 +111,7 @@ write_posted = record { shows = refl; leaves = refl }
 
 -- the host has the abort open, and its post in its outbox
 abbrev pub abort_open : World
-abort_open = record write_queued { host = asks_abort first_host 1 (cmd 1) 257 }
+abort_open = record write_queued { host = with_abort_asked first_host 1 (cmd 1) 257 }
 
 -- the abort is asked
 abort_asked : Goes write_queued (Told (input.Abort 1) ∷ []) [] abort_open

@@ -14,20 +14,20 @@ use Rattle.mpi_doorbell.specs.declared.stage.Reading.TheVariants.{Word}
 use Rattle.mpi_doorbell.specs.declared.stage.Stage.TheVariants.{Awaits}
 use Rattle.mpt_messages.specs.declared.fault.MsgFault.TheVariants as fault
 use Rattle.mpt_trace.specs.declared.item.Up.TheVariants as up
-use Rattle.mpt_trace.specs.Fields.{changes_from, reply_frame_address, address_descriptor}
+use Rattle.mpt_wire.specs.Messages.Fields.{changes_from, reply_frame_address, address_descriptor}
 use Rattle.mpt_rules.specs.declared.request.Request.TheVariants as request
 use Rattle.mpt_rules.specs.declared.stage.Stage.{Stage}
 use Rattle.mpt_rules.specs.declared.stage.Stage.TheVariants as stage
 use Rattle.mpt_rules.specs.declared.why.Why.TheVariants as why
-use Rattle.mpt_rules.specs.HostParts.{Host, new_host}
-use Rattle.mpt_rules.specs.HostDoorbell.{begins_facts, goes_on}
-use Rattle.mpt_rules.specs.HostRemoval.{first_not_absent}
-use Rattle.mpt_rules.specs.Host.{takes_up}
+use Rattle.mpt_rules.specs.Host.Parts.{Host, new_host}
+use Rattle.mpt_rules.specs.Host.Doorbell.{begins_facts, turn_from}
+use Rattle.mpt_rules.specs.Host.Removal.{first_not_absent}
+use Rattle.mpt_rules.specs.Host.Takes.{takes_up}
 use Rattle.mpt_rules.proofs.HostUp.{changed, event_of, frame_with, host_up, page_of, replies, resetting, says, succeeds, up_with, with_open, with_two}
 
 -- a value, an event and a page read on a queue above 0
 value_on_another_queue : (takes_up (up_with 2) 1 (up.Value 0)).answer ≡ Some (why.WrongQueue 1)
-unfolding goes_on
+unfolding turn_from
 value_on_another_queue = refl
 
 reply_on_another_queue : (takes_up (up_with 2) 1 (says 265 0x04 0)).answer ≡ Some (why.WrongQueue 1)
@@ -48,12 +48,12 @@ mark_twice : (takes_up (record (resetting (up_with 2)) { marks = false ∷ true 
 mark_twice = refl
 
 no_read : (takes_up host_up 0 (up.Value 0)).answer ≡ Some why.NoRead
-unfolding goes_on
+unfolding turn_from
 no_read = refl
 
 -- a handshake can't begin while the Doorbell is used
 door_refused : (takes_up (begins_facts host_up) 0 (up.Value DOORBELL_USED)).answer ≡ Some (why.DoorRefused 1 DOORBELL_USED)
-unfolding goes_on ioc_facts_layout ioc_facts_values
+unfolding turn_from ioc_facts_layout ioc_facts_values
 door_refused = refl
 
 -- an unused entry, a success reply of no SCSI IO, and an address reply without a frame
@@ -161,23 +161,23 @@ abbrev handshake_reply : ℕ → ℕ → ℕ → ℕ → List ℕ
 handshake_reply bytes dwords function status = with_two 0x0e status (slice_set (slice_set (replicate bytes 0) 0x02 dwords) 0x03 function)
 
 handshake_cut : (takes_up (at_end stage.Facts (handshake_reply 20 5 0x03 0)) 0 (up.Value 0)).answer ≡ Some (why.BadFrame (fault.Short 64 20))
-unfolding goes_on field ioc_facts_reply_layout
+unfolding turn_from field ioc_facts_reply_layout
 handshake_cut = refl
 
 -- no identifier is offered
 bad_facts : (takes_up (at_end stage.Facts (handshake_reply 64 16 0x03 0)) 0 (up.Value 0)).answer ≡ Some why.BadAnswer
-unfolding goes_on field ioc_facts_reply_layout
+unfolding turn_from field ioc_facts_reply_layout
 bad_facts = refl
 
 init_refused : (takes_up (at_end stage.Init (handshake_reply 20 5 0x02 0x0007)) 0 (up.Value 0)).answer ≡ Some (why.BadStatus 0x0007)
-unfolding goes_on field ioc_init_reply_layout
+unfolding turn_from field ioc_init_reply_layout
 init_refused = refl
 
 -- a strange item changes nothing and tells nothing
 nothing_told : (takes_up host_up 0 (up.Value 0)).told ≡ []
-unfolding goes_on
+unfolding turn_from
 nothing_told = refl
 
 nothing_changed : (takes_up host_up 0 (up.Value 0)).part ≡ host_up
-unfolding goes_on
+unfolding turn_from
 nothing_changed = refl

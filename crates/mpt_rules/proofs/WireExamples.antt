@@ -19,22 +19,22 @@ use Rattle.mpt_messages.specs.declared.ioc_reply.IocReply.TheVariants as reply
 use Rattle.mpt_trace.specs.declared.choice.Choice.TheVariants as choice
 use Rattle.mpt_trace.specs.declared.input.Input.TheVariants as input
 use Rattle.mpt_trace.specs.declared.entry.Entry.{Entry}
-use Rattle.mpt_trace.specs.Passes.{Passes, state_after}
-use Rattle.mpt_trace.specs.Fields.{changes_from}
-use Rattle.mpt_trace.specs.MachineState.{put_at}
-use Rattle.mpt_trace.specs.Bindings.{least_from}
-use Rattle.mpt_trace.specs.Plugs.{ServedAsks, Serving, nothing_bound, served_next}
-use Rattle.mpt_trace.specs.Removals.{UnbindAsks, no_removals, removals_next}
-use Rattle.mpt_trace.specs.Leaving.{Added, Answered, leaving_next}
-use Rattle.mpt_trace.specs.DoorbellWords.{Talks, asked_bytes, door_next, quiet_door, replied_bytes}
+use Rattle.mpt_wire.specs.Walks.Passes.{Passes, state_after}
+use Rattle.mpt_wire.specs.Messages.Fields.{changes_from}
+use Rattle.mpt_wire.specs.Machine.State.{put_at}
+use Rattle.mpt_wire.specs.Handles.Bindings.{least_unbound_from}
+use Rattle.mpt_wire.specs.Handles.Plugs.{ServedAsks, Serving, nothing_bound, served_next}
+use Rattle.mpt_wire.specs.Handles.Removals.{UnbindAsks, no_removals, removals_next}
+use Rattle.mpt_wire.specs.Handles.Leaving.{Added, Answered, leaving_next}
+use Rattle.mpt_wire.specs.Messages.DoorbellWords.{Talks, asked_bytes, door_next, quiet_door, replied_bytes}
 use Rattle.mpt_rules.specs.declared.binding.Binding.TheVariants as binding
 use Rattle.mpt_rules.specs.declared.request.Request.TheVariants as request
-use Rattle.mpt_rules.specs.HostDoorbell.{goes_on}
-use Rattle.mpt_rules.specs.HostPosts.{posts_internal}
-use Rattle.mpt_rules.specs.HostRemoval.{first_not_absent, hears_changes}
-use Rattle.mpt_rules.specs.IocTables.{with_binding}
-use Rattle.mpt_rules.specs.World.{World, fresh}
-use Rattle.mpt_rules.specs.Cases.{Case, Chosen, Told, trace}
+use Rattle.mpt_rules.specs.Host.Doorbell.{turn_from}
+use Rattle.mpt_rules.specs.Host.Posts.{posts_internal}
+use Rattle.mpt_rules.specs.Host.Removal.{first_not_absent, hears_changes}
+use Rattle.mpt_rules.specs.Ioc.Tables.{with_binding}
+use Rattle.mpt_rules.specs.World.State.{World, fresh}
+use Rattle.mpt_rules.specs.World.Cases.{Case, Chosen, Told, trace}
 use Rattle.mpt_rules.proofs.WorldExampleParts.{A, B, one_disk, plugged_disk, spare_disk, times, up_world}
 
 -- ---- a handle leaves and is given again
@@ -66,7 +66,7 @@ unfolding field unit_control_layout unit_control_values
 freed_by_removal = (tt, (tt, ((265, refl), (tt, tt))))
 
 given_in_turn : Passes served_next ServedAsks waits_for_one given_again
-unfolding field unit_control_layout unit_control_values least_from
+unfolding field unit_control_layout unit_control_values least_unbound_from
 given_in_turn = (tt, (tt, (tt, ((refl, refl), tt))))
 
 -- ---- the doorbell of a start
@@ -81,13 +81,13 @@ abbrev start : ℕ → List Entry
 start n = trace (fresh [] (4 ∷ []) 1) (Told input.Start ∷ turns n)
 
 facts_talked : (state_after door_next quiet_door (start 112)).talk ≡ Talks 3 (asked_bytes ask.Facts) (replied_bytes (reply.Facts 0 1))
-unfolding goes_on field ioc_facts_layout ioc_facts_values ioc_facts_reply_layout ioc_facts_reply_values
+unfolding turn_from field ioc_facts_layout ioc_facts_values ioc_facts_reply_layout ioc_facts_reply_values
 facts_talked = refl
 
 port_facts_talked : (state_after door_next quiet_door (start 170)).talk ≡ Talks 3 (asked_bytes ask.PortFacts) (replied_bytes (reply.PortFacts 0 0))
-unfolding goes_on field ioc_facts_layout ioc_facts_values ioc_facts_reply_layout ioc_facts_reply_values port_facts_layout port_facts_values port_facts_reply_layout port_facts_reply_values
+unfolding turn_from field ioc_facts_layout ioc_facts_values ioc_facts_reply_layout ioc_facts_reply_values port_facts_layout port_facts_values port_facts_reply_layout port_facts_reply_values
 port_facts_talked = refl
 
 init_talked : (state_after door_next quiet_door (start 250)).talk ≡ Talks 18 (asked_bytes (ask.Init 1)) (replied_bytes (reply.Plain 0x02 0))
-unfolding goes_on field ioc_facts_layout ioc_facts_values ioc_facts_reply_layout ioc_facts_reply_values port_facts_layout port_facts_values port_facts_reply_layout port_facts_reply_values ioc_init_layout ioc_init_values ioc_init_reply_layout ioc_init_reply_values
+unfolding turn_from field ioc_facts_layout ioc_facts_values ioc_facts_reply_layout ioc_facts_reply_values port_facts_layout port_facts_values port_facts_reply_layout port_facts_reply_values ioc_init_layout ioc_init_values ioc_init_reply_layout ioc_init_reply_values
 init_talked = refl

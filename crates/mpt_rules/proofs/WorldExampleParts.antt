@@ -7,7 +7,7 @@ use Rattle.mpi_doorbell.specs.DoorRegisters.{new_registers}
 use Rattle.mpi_doorbell.specs.declared.state.IocState.TheVariants as state
 use Rattle.removal.specs.Handles.{all_absent, with_phase}
 use Rattle.removal.specs.declared.phase.Phase.TheVariants as phase
-use Rattle.mpt_trace.specs.Fields.{success_descriptor}
+use Rattle.mpt_wire.specs.Messages.Fields.{success_descriptor}
 use Rattle.mpt_trace.specs.declared.item.Up.TheVariants as up
 use Rattle.mpt_trace.specs.Entries.{is_in_show}
 use Rattle.mpt_trace.specs.declared.choice.Choice.{Choice}
@@ -17,14 +17,14 @@ use Rattle.mpt_trace.specs.declared.host_state.HostState.TheVariants as mode
 use Rattle.mpt_trace.specs.declared.input.Input.TheVariants as input
 use Rattle.mpt_rules.specs.declared.binding.Binding.TheVariants as binding
 use Rattle.mpt_rules.specs.declared.host_frame.HostFrame.TheVariants as frame
-use Rattle.mpt_rules.specs.HostParts.{Host, new_host}
+use Rattle.mpt_rules.specs.Host.Parts.{Host, new_host}
 use Rattle.mpt_trace.specs.Command.{command_named}
-use Rattle.mpt_rules.specs.HostPosts.{posts_command}
-use Rattle.mpt_rules.specs.IocParts.{Ioc, new_ioc}
-use Rattle.mpt_rules.specs.FabricParts.{Fabric, FabricDisk}
-use Rattle.mpt_rules.specs.IocTables.{in_state, with_binding}
-use Rattle.mpt_rules.specs.World.{World}
-use Rattle.mpt_rules.specs.Cases.{Case, Told, Chosen, trace}
+use Rattle.mpt_rules.specs.Host.Posts.{posts_command}
+use Rattle.mpt_rules.specs.Ioc.Parts.{Ioc, new_ioc}
+use Rattle.mpt_rules.specs.Fabric.Parts.{Fabric, FabricDisk}
+use Rattle.mpt_rules.specs.Ioc.Tables.{in_state, with_binding}
+use Rattle.mpt_rules.specs.World.State.{World}
+use Rattle.mpt_rules.specs.World.Cases.{Case, Told, Chosen, trace}
 
 abbrev pub A : ℕ
 A = 0x5000c50000000001

@@ -2,7 +2,7 @@
 use Rattle.std.proofs.Common.{◌≡◌, List, [], ◌∷◌, None, replicate, refl}
 use Rattle.std.specs.FinSet.{members}
 use Rattle.mpi_layout.specs.Rows.{field}
-use Rattle.mpt_trace.specs.Fields.{success_descriptor}
+use Rattle.mpt_wire.specs.Messages.Fields.{success_descriptor}
 use Rattle.scsi_disk.specs.Operation.{operation_of}
 use Rattle.scsi_msgs.specs.ScsiIo.{scsi_io_layout, scsi_io_values}
 use Rattle.mpt_trace.specs.declared.choice.Choice.TheVariants as choice
@@ -10,7 +10,7 @@ use Rattle.mpt_trace.specs.declared.command_form.CommandForm.TheVariants as form
 use Rattle.mpt_trace.specs.declared.entry.Entry.TheVariants as entry
 use Rattle.mpt_trace.specs.declared.item.Up.TheVariants as up
 use Rattle.mpt_trace.specs.declared.outcome.Outcome.TheVariants as outcome
-use Rattle.mpt_rules.specs.Cases.{Case, Chosen, run, happens}
+use Rattle.mpt_rules.specs.World.Cases.{Case, Chosen, run, happens}
 use Rattle.mpt_rules.proofs.WorldExampleParts.{A, accepted, answered, one_disk, plugged_disk, posted, shown, submit}
 
 -- ---- the host accepts a command

@@ -14,24 +14,24 @@ use Rattle.mpt_trace.specs.declared.command_form.CommandForm.TheVariants as form
 use Rattle.mpt_trace.specs.declared.entry.Entry.TheVariants as entry
 use Rattle.mpt_rules.specs.declared.request.Request.TheVariants as request
 use Rattle.std.specs.Ordering.{nat_cmp}
-use Rattle.mpt_rules.specs.HostParts.{Host}
-use Rattle.mpt_rules.specs.HostInputs.{accepts}
-use Rattle.mpt_rules.specs.IocParts.{Ioc}
+use Rattle.mpt_rules.specs.Host.Parts.{Host}
+use Rattle.mpt_rules.specs.Host.Inputs.{with_accepted}
+use Rattle.mpt_rules.specs.Ioc.Parts.{Ioc}
 use Rattle.std.specs.Prelude.{◌++◌}
 use Rattle.std.specs.FinSet as set
 use Rattle.removal.specs.Handles.{all_absent, with_phase}
 use Rattle.removal.specs.declared.phase.Phase.TheVariants as phase
-use Rattle.mpt_rules.specs.World.{World}
-use Rattle.mpt_rules.specs.Cases.{Case, Chosen}
+use Rattle.mpt_rules.specs.World.State.{World}
+use Rattle.mpt_rules.specs.World.Cases.{Case, Chosen}
 use Rattle.mpt_rules.proofs.SchedulePieces.{Goes, host_at, rounds, tells}
 use Rattle.mpt_rules.proofs.WorldExampleParts.{A, one_disk, plugged_disk, submit, up_fabric, up_host, up_ioc}
 use Rattle.mpt_rules.specs.declared.at_fabric.AtFabric.TheVariants as at
-use Rattle.mpt_rules.specs.IocTables.{with_request}
-use Rattle.mpt_rules.specs.FabricParts.{Fabric}
+use Rattle.mpt_rules.specs.Ioc.Tables.{with_request}
+use Rattle.mpt_rules.specs.Fabric.Parts.{Fabric}
 use Rattle.mpt_rules.specs.declared.task.Task.{Task}
 use Rattle.mpt_trace.specs.declared.item.Back.TheVariants as back
 use Rattle.mpt_trace.specs.declared.item.Back.{Back}
-use Rattle.mpt_rules.specs.HostParts.{Cmd}
+use Rattle.mpt_rules.specs.Host.Parts.{Cmd}
 use Rattle.std.specs.FinMap.{FinMap}
 use Rattle.std.proofs.Common.{ℕ}
 use Rattle.mpi_doorbell.specs.DoorRegisters.{DoorRegisters}
@@ -81,7 +81,7 @@ world_of host ioc fabric = record (one_disk 1) { host = host; ioc = ioc; fabric 
 -- the host has both open, and their posts in its outbox
 abbrev pub accepted_two : World
 accepted_two =
-    record (one_disk 1) { host = accepts (accepts (up_host 1) 1 A (command_named (writes 0x11)) 0x0009 1) 2 A (command_named (writes 0x22)) 0x0009 2 }
+    record (one_disk 1) { host = with_accepted (with_accepted (up_host 1) 1 A (command_named (writes 0x11)) 0x0009 1) 2 A (command_named (writes 0x22)) 0x0009 2 }
 
 -- two writes for the disk
 abbrev pub submits : List Case

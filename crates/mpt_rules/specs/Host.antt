@@ -1,60 +1,13 @@
--- The host's rules: what it does with what comes up, and what it waits for. All its calls are named here.
-use Rattle.std.specs.Prelude.{ℕ, nat_lt, ◌&&◌, ◌||◌, not, Bool, true, false, [], length, Option, Some, None}
-use Rattle.std.specs.List.{list_any}
-use Rattle.smid_pool.specs.Pool.{is_open}
-use Rattle.mpt_trace.specs.declared.item.Up.{Up}
-use Rattle.mpt_trace.specs.declared.item.Up.TheVariants as up
-use Rattle.mpt_trace.specs.declared.host_state.HostState.{HostState}
-use Rattle.mpt_trace.specs.declared.host_state.HostState.TheVariants as state
-use Rattle.mpt_rules.specs.declared.why.Why.{Why}
-use Rattle.mpt_rules.specs.Outcome.{Called, Outcome}
-use Rattle.mpt_rules.specs.HostParts.{Host}
-use Rattle.mpt_rules.specs.HostDoorbell.{is_resetting}
-use Rattle.mpt_rules.specs.HostRemoval.{quietly}
-use Rattle.mpt_rules.specs.HostReplies.{hears_reply}
-use Rattle.mpt_rules.specs.HostResets.{has_all_marks, hears_mark}
-use Rattle.mpt_rules.specs.HostValues.{hears_value}
-pub use Rattle.mpt_rules.specs.HostInputs.{starts, submits, aborts, resets_target, diag_resets, unit_resets, looks, stops}
-pub use Rattle.mpt_rules.specs.HostReturns.{down_sent}
-pub use Rattle.mpt_rules.specs.HostStrange.{why_strange}
-
--- ---- what comes up
-
--- an item that isn't strange
-abbrev pub hears_up : Host → ℕ → Up → Outcome Host
-hears_up host queue (up.Value value) = hears_value host value
-hears_up host queue (up.Reply descriptor frame page sense) = hears_reply host queue descriptor frame page sense
-hears_up host queue (up.Mark generation) = hears_mark host queue
-hears_up host queue up.Calm = quietly host
-
--- the item is taken: what it caused
-abbrev pub as_taken : Outcome Host → Called Host (Option Why)
-as_taken outcome = record { part = outcome.part; told = outcome.entries; answer = None }
-
--- a strange item changes nothing and tells nothing
-abbrev pub takes_unless : Host → ℕ → Up → Option Why → Called Host (Option Why)
-takes_unless host queue item (Some why) = record { part = host; told = []; answer = Some why }
-takes_unless host queue item None = as_taken (hears_up host queue item)
-
--- an item came on a reply queue
-abbrev pub takes_up : Host → ℕ → Up → Called Host (Option Why)
-takes_up host queue item = takes_unless host queue item (why_strange host queue item)
-
--- ---- what the host waits for
-
--- the host brings the controller up
-abbrev pub is_starting : HostState → Bool
-is_starting state.Off = false
-is_starting state.Starting = true
-is_starting state.Up = false
-is_starting state.Resetting = false
-
--- a reset is going on, and a mark of it wasn't taken
-abbrev pub awaits_mark : Host → Bool
-awaits_mark host = is_resetting host.mode && not (has_all_marks host)
-
--- a value, a reply, an identifier for a post, the end of the start, or a mark
-abbrev pub host_waits : Host → Bool
-host_waits host =
-    host.reading || (list_any is_open host.pool || (nat_lt 0 (length host.wait_high) || (nat_lt 0 (length host.wait_internal)
-    || (is_starting host.mode || awaits_mark host))))
+-- The host's rules.
+pub mod Doorbell
+pub mod Handshakes
+pub mod Inputs
+pub mod Parts
+pub mod Posts
+pub mod Removal
+pub mod Replies
+pub mod Resets
+pub mod Returns
+pub mod Strange
+pub mod Takes
+pub mod Values

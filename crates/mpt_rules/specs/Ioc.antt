@@ -1,38 +1,17 @@
--- The controller: what each call does, and what it is asked for.
-use Rattle.std.specs.Prelude.{ℕ, if◌then◌else◌, List}
-use Rattle.mpi_doorbell.specs.DoorRegisters.{is_fault}
-use Rattle.mpt_trace.specs.declared.item.Down.{Down}
-use Rattle.mpt_trace.specs.declared.item.Down.TheVariants as down
-use Rattle.mpt_trace.specs.declared.item.Out.TheVariants as out
-use Rattle.mpt_rules.specs.IocParts.{Ioc, state_of}
-use Rattle.mpt_rules.specs.IocPosts.{posts, returns}
-use Rattle.mpt_rules.specs.IocRegisters.{reads, writes}
-use Rattle.mpt_rules.specs.IocReplies.{sends}
-use Rattle.mpt_rules.specs.IocTables.{is_operational, silently}
-use Rattle.mpt_rules.specs.Outcome.{Outcome}
-pub use Rattle.mpt_rules.specs.IocBack.{takes_back}
-pub use Rattle.mpt_rules.specs.IocPlaces.{IocPlace, InHighQueue, InNormalQueue, AtTheFabric, InUpOutbox, ioc_quiet, smid_at}
-pub use Rattle.mpt_rules.specs.IocPosts.{frame_here}
-pub use Rattle.mpt_rules.specs.IocSending.{front_out, front_up_on, out_sent, up_sent_on}
-pub use Rattle.mpt_rules.specs.IocSteps.{steps_high, steps_normal}
-pub use Rattle.mpt_rules.specs.IocTables.{binding_of}
-
--- a post and a returned frame are passed over where the controller isn't OPERATIONAL
-abbrev pub posts_if_operational : Ioc → ℕ → List ℕ → List ℕ → Ioc
-posts_if_operational ioc descriptor frame payload = if is_operational (state_of ioc) then posts ioc descriptor frame payload else ioc
-
--- a reply frame is returned
-abbrev pub returns_if_operational : Ioc → ℕ → Ioc
-returns_if_operational ioc address = if is_operational (state_of ioc) then returns ioc address else ioc
-
--- the host's last word is passed on to the fabric
-abbrev pub takes_stop : Ioc → Ioc
-takes_stop ioc = if is_fault (state_of ioc) then ioc else sends ioc out.Stop
-
--- an item of the host is taken
-abbrev pub takes_down : Ioc → Down → Outcome Ioc
-takes_down ioc (down.Write reg value) = writes ioc reg value
-takes_down ioc (down.Read reg) = silently (reads ioc reg)
-takes_down ioc (down.Post descriptor frame payload) = silently (posts_if_operational ioc descriptor frame payload)
-takes_down ioc (down.Return address index) = silently (returns_if_operational ioc address)
-takes_down ioc down.Stop = silently (takes_stop ioc)
+-- The controller's rules.
+pub mod Back
+pub mod Bindings
+pub mod Commands
+pub mod Configuration
+pub mod Parts
+pub mod Places
+pub mod Posts
+pub mod Registers
+pub mod Replies
+pub mod Requests
+pub mod Resets
+pub mod Sending
+pub mod Steps
+pub mod Tables
+pub mod Takes
+pub mod Tasks

@@ -3,7 +3,7 @@ use Rattle.std.specs.Prelude.{List}
 use Rattle.mpt_trace.specs.declared.entry.Entry.{Entry}
 
 -- a part, or the world, after a case, and the entries of the case
-pub record Outcome (P : Type 0) : Type 0 where
+pub record Happening (P : Type 0) : Type 0 where
   pub part : P
   pub entries : List Entry
 

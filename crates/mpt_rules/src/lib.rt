@@ -1,12 +1,10 @@
 //! The rules of the host, the controller and the fabric, and of the world that they make with the lanes
-//! between them: definitions, and two laws on them. Here stand the types that the definitions and the code of the
-//! parts share.
+//! between them, as definitions. In `src/` stand the types that the definitions and the code of the parts share.
 #![tactic(auto)]
 
 mod at_fabric;
 mod binding;
 mod host_frame;
-mod laws;
 mod post;
 mod request;
 mod said;
@@ -18,7 +16,6 @@ mod why;
 pub use at_fabric::{AtFabric, HeldReset};
 pub use binding::{Binding, Waiting};
 pub use host_frame::HostFrame;
-pub use laws::{passing_keeps_the_rules, requests_have_one_life};
 pub use post::Post;
 pub use request::Request;
 pub use said::Said;

@@ -1,5 +1,5 @@
 -- What reads as a command or a statement keeps its ranges.
-use Rattle.std.proofs.Common.{◌≡◌, ℕ, suc, ◌/◌, ◌%◌, ◌<◌, ◌≤◌, ◌==◌, ◌&&◌, nat_le, Bool, true, false, cond, List, [], ◌∷◌, length, Result, Ok, Err, refl, sym, ◌∙◌, subst, arith, codes, bytes_eq}
+use Rattle.std.proofs.Common.{◌≡◌, ℕ, suc, ◌/◌, ◌%◌, ◌<◌, ◌≤◌, ◌==◌, ◌&&◌, nat_le, Bool, true, false, cond, List, [], ◌∷◌, ◌++◌, All, find, length, Some, Result, Ok, Err, refl, sym, ◌∙◌, subst, arith, bytes_eq}
 use Rattle.std.specs.List.{list_all}
 use Rattle.std.proofs.lemmas.Bool.{and_parts}
 use Rattle.std.proofs.lemmas.Grind.{common_steps}
@@ -10,10 +10,10 @@ use Rattle.mpt_lines.specs.declared.fault.Cause.{Cause}
 use Rattle.mpt_lines.specs.declared.fault.Cause.TheVariants.{Form, Range}
 use Rattle.mpt_lines.specs.declared.statement.Statement.{Statement}
 use Rattle.mpt_lines.specs.declared.statement.Statement.TheVariants as statement
-use Rattle.mpt_lines.specs.Commands.{capacity, command, inquiry, raw, read, read16, tur, write, write16}
+use Rattle.mpt_lines.specs.Commands.{capacity, command, commands, extent, filled_extent, inquiry, raw, read, read16, tur, write, write16}
 use Rattle.mpt_lines.specs.Numbers.{address, byte, cdb, checked_bytes, digits, formed, is_bytes, number, within, ◌>>=◌}
-use Rattle.mpt_lines.specs.Statements.{abort, choice_line, counted, disk, drain, expander, fabric_run, host_take_on, ioc_put_on, on_queue, optional_count, plain_choice, plug, queues, reset, schedule_line, start, step_line, submit, treset, unit, unplug}
-use Rattle.mpt_lines.specs.Words.{nothing, one, three, two}
+use Rattle.mpt_lines.specs.Statements.{abort, counted, disk, drain, expander, fabric_run, host_take_on, ioc_put_on, on_queue, optional_count, plug, queues, reset, schedule_line, schedule_words, shared_words, start, submit, treset, unit, unplug}
+use Rattle.mpt_lines.specs.Words.{Keyword, nothing, one, read_by, read_with, three, two}
 use Rattle.mpt_trace.specs.declared.choice.Choice.{Choice}
 use Rattle.mpt_trace.specs.declared.choice.Choice.TheVariants as choice
 use Rattle.mpt_trace.specs.declared.command_form.CommandForm.{CommandForm}
@@ -29,14 +29,23 @@ bind_ok (Err cause) f y e = cc
 pub ok_value : {A : Type 0} (x y : A) → (let r : Result A Cause = Ok x in r) ≡ Ok y → x ≡ y
 ok_value x y e = cc
 
--- one of two choices
-pub either : {A : Type 0} (Q : Result A Cause → Type 0) (b : Bool) (x y : Result A Cause) → Q x → Q y → Q (cond b x y)
-either Q true x y this that = this
-either Q false x y this that = that
-
 -- a refusal is no value
 pub refused : {A : Type 0} (cause : Cause) (v : A) (P : Type 0) → (let r : Result A Cause = Err cause in r) ≡ Ok v → P
 refused cause v P e = cc
+
+-- what the words after a keyword say is so
+abbrev pub Keeps : {A : Type 0} → (A → Type 0) → Keyword A → Type 0
+Keeps {A} P k = (ws : List (List ℕ)) (v : A) → k.reads ws ≡ Ok v → P v
+
+-- what a line says by its first word is so, where it is so of each keyword
+pub read_keeps : {A : Type 0} (P : A → Type 0) (keywords : List (Keyword A)) → All (Keeps P) keywords → (ws : List (List ℕ)) (v : A) → read_by keywords ws ≡ Ok v → P v
+read_keeps P keywords all [] v e = refused Form v _ e
+read_keeps P [] all (word ∷ others) v e = refused Form v _ e
+read_keeps P (k ∷ ks) all (word ∷ others) v e = by_word (bytes_eq word k.word) e (λ f. read_keeps P ks all.1 (word ∷ others) v f)
+  where
+    by_word : (b : Bool) → read_with (cond b (Some k) (find (λ j. bytes_eq word j.word) ks)) others ≡ Ok v → (read_by ks (word ∷ others) ≡ Ok v → P v) → P v
+    by_word true e rest = all.0 others v e
+    by_word false e rest = rest e
 
 chosen : {A : Type 0} (b : Bool) (x y : A) (cause : Cause) → cond b (Ok x) (Err cause) ≡ Ok y → (b ≡ true) × (x ≡ y)
 chosen true x y cause e = (refl, cc)
@@ -105,43 +114,50 @@ inquiry_fits ws f e =
     let l = bind_ok (within 0 65535 n.0) _ f n.2 in
     fits_form (form.Inquiry l.0) f l.2 (most_ok 65535 n.0 l.0 l.1)
 
+-- the first block and the count of a transfer keep their ranges
+extent_ok : (most : ℕ) (ws : List (List ℕ)) (e : ℕ × ℕ) → extent most ws ≡ Ok e → (nat_le e.0 most ≡ true) × (nat_le e.1 65535 ≡ true)
+extent_ok most ws e is =
+    let w = bind_ok (two ws) _ e is in
+    let m = bind_ok (number w.0.0) _ e w.2 in
+    let n = bind_ok (number w.0.1) _ e m.2 in
+    let k = bind_ok (within 0 most m.0) _ e n.2 in
+    let l = bind_ok (within 0 65535 n.0) _ e k.2 in
+    subst (λ (r : ℕ × ℕ). (nat_le r.0 most ≡ true) × (nat_le r.1 65535 ≡ true)) (ok_value (k.0, l.0) e l.2) (most_ok most m.0 k.0 k.1, most_ok 65535 n.0 l.0 l.1)
+
+filled_extent_ok : (most : ℕ) (ws : List (List ℕ)) (e : ℕ × ℕ × ℕ) → filled_extent most ws ≡ Ok e → (nat_le e.0 most ≡ true) × (nat_le e.1 65535 ≡ true) × (is_byte e.2 ≡ true)
+filled_extent_ok most ws e is =
+    let w = bind_ok (three ws) _ e is in
+    let m = bind_ok (number w.0.0) _ e w.2 in
+    let n = bind_ok (number w.0.1) _ e m.2 in
+    let b = bind_ok (byte w.0.2) _ e n.2 in
+    let k = bind_ok (within 0 most m.0) _ e b.2 in
+    let l = bind_ok (within 0 65535 n.0) _ e k.2 in
+    subst (λ (r : ℕ × ℕ × ℕ). (nat_le r.0 most ≡ true) × (nat_le r.1 65535 ≡ true) × (is_byte r.2 ≡ true)) (ok_value (k.0, l.0, b.0) e l.2)
+    (most_ok most m.0 k.0 k.1, most_ok 65535 n.0 l.0 l.1, byte_ok w.0.2 b.0 b.1)
+
 read_fits : (ws : List (List ℕ)) (f : CommandForm) → read ws ≡ Ok f → form_fits f ≡ true
 read_fits ws f e =
-    let w = bind_ok (two ws) _ f e in
-    let m = bind_ok (number w.0.0) _ f w.2 in
-    let n = bind_ok (number w.0.1) _ f m.2 in
-    let k = bind_ok (within 0 4294967295 m.0) _ f n.2 in
-    let l = bind_ok (within 0 65535 n.0) _ f k.2 in
-    fits_form (form.Read k.0 l.0) f l.2 (rw (most_ok 4294967295 m.0 k.0 k.1, most_ok 65535 n.0 l.0 l.1) refl)
+    let x = bind_ok (extent 4294967295 ws) _ f e in
+    let r = extent_ok 4294967295 ws x.0 x.1 in
+    fits_form (form.Read x.0.0 x.0.1) f x.2 (rw (r.0, r.1) refl)
 
 read16_fits : (ws : List (List ℕ)) (f : CommandForm) → read16 ws ≡ Ok f → form_fits f ≡ true
 read16_fits ws f e =
-    let w = bind_ok (two ws) _ f e in
-    let m = bind_ok (number w.0.0) _ f w.2 in
-    let n = bind_ok (number w.0.1) _ f m.2 in
-    let k = bind_ok (within 0 18446744073709551615 m.0) _ f n.2 in
-    let l = bind_ok (within 0 65535 n.0) _ f k.2 in
-    fits_form (form.Read16 k.0 l.0) f l.2 (rw (most_ok 18446744073709551615 m.0 k.0 k.1, most_ok 65535 n.0 l.0 l.1) refl)
+    let x = bind_ok (extent 18446744073709551615 ws) _ f e in
+    let r = extent_ok 18446744073709551615 ws x.0 x.1 in
+    fits_form (form.Read16 x.0.0 x.0.1) f x.2 (rw (r.0, r.1) refl)
 
 write_fits : (ws : List (List ℕ)) (f : CommandForm) → write ws ≡ Ok f → form_fits f ≡ true
 write_fits ws f e =
-    let w = bind_ok (three ws) _ f e in
-    let m = bind_ok (number w.0.0) _ f w.2 in
-    let n = bind_ok (number w.0.1) _ f m.2 in
-    let b = bind_ok (byte w.0.2) _ f n.2 in
-    let k = bind_ok (within 0 4294967295 m.0) _ f b.2 in
-    let l = bind_ok (within 0 65535 n.0) _ f k.2 in
-    fits_form (form.Write k.0 l.0 b.0) f l.2 (rw (most_ok 4294967295 m.0 k.0 k.1, most_ok 65535 n.0 l.0 l.1, byte_ok w.0.2 b.0 b.1) refl)
+    let x = bind_ok (filled_extent 4294967295 ws) _ f e in
+    let r = filled_extent_ok 4294967295 ws x.0 x.1 in
+    fits_form (form.Write x.0.0 x.0.1 x.0.2) f x.2 (rw (r.0, r.1, r.2) refl)
 
 write16_fits : (ws : List (List ℕ)) (f : CommandForm) → write16 ws ≡ Ok f → form_fits f ≡ true
 write16_fits ws f e =
-    let w = bind_ok (three ws) _ f e in
-    let m = bind_ok (number w.0.0) _ f w.2 in
-    let n = bind_ok (number w.0.1) _ f m.2 in
-    let b = bind_ok (byte w.0.2) _ f n.2 in
-    let k = bind_ok (within 0 18446744073709551615 m.0) _ f b.2 in
-    let l = bind_ok (within 0 65535 n.0) _ f k.2 in
-    fits_form (form.Write16 k.0 l.0 b.0) f l.2 (rw (most_ok 18446744073709551615 m.0 k.0 k.1, most_ok 65535 n.0 l.0 l.1, byte_ok w.0.2 b.0 b.1) refl)
+    let x = bind_ok (filled_extent 18446744073709551615 ws) _ f e in
+    let r = filled_extent_ok 18446744073709551615 ws x.0 x.1 in
+    fits_form (form.Write16 x.0.0 x.0.1 x.0.2) f x.2 (rw (r.0, r.1, r.2) refl)
 
 cdb_ok : (word block : List ℕ) (done : Unit) → checked_bytes word ≡ Ok done → cdb word ≡ Ok block → (nat_le 1 (length block) && nat_le (length block) 32 && list_all is_byte block) ≡ true
 cdb_ok word block done c e = in_room (nat_le (length word / 2) 32) refl e
@@ -168,21 +184,9 @@ raw_fits ws f e =
     let l = bind_ok (within 0 4294967295 n.0) _ f b.2 in
     fits_form (form.Raw b.0 l.0) f l.2 (rw (cdb_ok w.0.0 b.0 c.0 c.1 b.1, most_ok 4294967295 n.0 l.0 l.1) refl)
 
-abbrev pub FormKept : Result CommandForm Cause → Type 0
-FormKept r = (f : CommandForm) → r ≡ Ok f → form_fits f ≡ true
-
-pub command_fits : (ws : List (List ℕ)) → FormKept (command ws)
-command_fits [] = λ f e. refused Form f _ e
-command_fits (word ∷ others) =
-    either FormKept (bytes_eq word (codes "tur")) (tur others) _ (tur_fits others)
-    (either FormKept (bytes_eq word (codes "inquiry")) (inquiry others) _ (inquiry_fits others)
-    (either FormKept (bytes_eq word (codes "capacity")) (capacity others) _ (capacity_fits others)
-    (either FormKept (bytes_eq word (codes "read")) (read others) _ (read_fits others)
-    (either FormKept (bytes_eq word (codes "write")) (write others) _ (write_fits others)
-    (either FormKept (bytes_eq word (codes "read16")) (read16 others) _ (read16_fits others)
-    (either FormKept (bytes_eq word (codes "write16")) (write16 others) _ (write16_fits others)
-    (either FormKept (bytes_eq word (codes "raw")) (raw others) _ (raw_fits others)
-    (λ f e. refused Form f _ e))))))))
+pub command_fits : (ws : List (List ℕ)) (f : CommandForm) → command ws ≡ Ok f → form_fits f ≡ true
+command_fits =
+    read_keeps (λ f. form_fits f ≡ true) commands (tur_fits, (inquiry_fits, (capacity_fits, (read_fits, (write_fits, (read16_fits, (write16_fits, (raw_fits, tt))))))))
 
 -- ---- statements
 
@@ -295,49 +299,58 @@ unit_fits ws s e = fits_said (statement.Host input.UnitReset) s (bind_ok (nothin
 drain_fits : (ws : List (List ℕ)) (s : Statement) → drain ws ≡ Ok s → statement_fits s ≡ true
 drain_fits ws s e = fits_said (statement.Drain) s (bind_ok (nothing ws) _ s e).2 refl
 
-abbrev pub Kept : Result Statement Cause → Type 0
-Kept r = (s : Statement) → r ≡ Ok s → statement_fits s ≡ true
-
-plain_choice_fits : (word : List ℕ) (others : List (List ℕ)) → Kept (plain_choice word others)
-plain_choice_fits word others =
-    either Kept (bytes_eq word (codes "host-put")) (counted choice.HostPut others) _ (counted_fits choice.HostPut (λ n. refl) others)
-    (either Kept (bytes_eq word (codes "host-take")) (counted choice.HostTake others) _ (counted_fits choice.HostTake (λ n. refl) others)
-    (either Kept (bytes_eq word (codes "ioc-take")) (counted choice.IocTake others) _ (counted_fits choice.IocTake (λ n. refl) others)
-    (either Kept (bytes_eq word (codes "ioc-high")) (counted choice.IocHigh others) _ (counted_fits choice.IocHigh (λ n. refl) others)
-    (either Kept (bytes_eq word (codes "ioc-normal")) (counted choice.IocNormal others) _ (counted_fits choice.IocNormal (λ n. refl) others)
-    (either Kept (bytes_eq word (codes "ioc-out")) (counted choice.IocOut others) _ (counted_fits choice.IocOut (λ n. refl) others)
-    (either Kept (bytes_eq word (codes "ioc-back")) (counted choice.IocBack others) _ (counted_fits choice.IocBack (λ n. refl) others)
-    (either Kept (bytes_eq word (codes "ioc-put")) (counted choice.IocPut others) _ (counted_fits choice.IocPut (λ n. refl) others)
-    (either Kept (bytes_eq word (codes "fabric-take")) (counted choice.FabricTake others) _ (counted_fits choice.FabricTake (λ n. refl) others)
-    (either Kept (bytes_eq word (codes "fabric-say")) (counted choice.FabricSay others) _ (counted_fits choice.FabricSay (λ n. refl) others)
-    (either Kept (bytes_eq word (codes "fabric-put")) (counted choice.FabricPut others) _ (counted_fits choice.FabricPut (λ n. refl) others)
-    (λ s e. refused Form s _ e)))))))))))
-
-choice_line_fits : (word : List ℕ) (others : List (List ℕ)) → Kept (choice_line word others)
-choice_line_fits word others =
-    either Kept (bytes_eq word (codes "fabric-run")) (fabric_run others) _ (fabric_run_fits others)
-    (either Kept (bytes_eq word (codes "ioc-put-on")) (ioc_put_on others) _ (ioc_put_on_fits others)
-    (either Kept (bytes_eq word (codes "host-take-on")) (host_take_on others) _ (host_take_on_fits others)
-    (plain_choice_fits word others)))
-
-step_line_fits : (word : List ℕ) (others : List (List ℕ)) → Kept (step_line word others)
-step_line_fits word others =
-    either Kept (bytes_eq word (codes "start")) (start others) _ (start_fits others)
-    (either Kept (bytes_eq word (codes "reset")) (reset others) _ (reset_fits others)
-    (either Kept (bytes_eq word (codes "unit")) (unit others) _ (unit_fits others)
-    (either Kept (bytes_eq word (codes "treset")) (treset others) _ (treset_fits others)
-    (either Kept (bytes_eq word (codes "submit")) (submit others) _ (submit_fits others)
-    (either Kept (bytes_eq word (codes "abort")) (abort others) _ (abort_fits others)
-    (choice_line_fits word others))))))
-
 -- what a line of a schedule says keeps its ranges
-pub schedule_line_fits : (ws : List (List ℕ)) → Kept (schedule_line ws)
-schedule_line_fits [] = λ s e. refused Form s _ e
-schedule_line_fits (word ∷ others) =
-    either Kept (bytes_eq word (codes "queues")) (queues others) _ (queues_fits others)
-    (either Kept (bytes_eq word (codes "disk")) (disk others) _ (disk_fits others)
-    (either Kept (bytes_eq word (codes "expander")) (expander others) _ (expander_fits others)
-    (either Kept (bytes_eq word (codes "plug")) (plug others) _ (plug_fits others)
-    (either Kept (bytes_eq word (codes "unplug")) (unplug others) _ (unplug_fits others)
-    (either Kept (bytes_eq word (codes "drain")) (drain others) _ (drain_fits others)
-    (step_line_fits word others))))))
+pub schedule_line_fits : (ws : List (List ℕ)) (s : Statement) → schedule_line ws ≡ Ok s → statement_fits s ≡ true
+schedule_line_fits =
+    read_keeps (λ s. statement_fits s ≡ true) (schedule_words ++ shared_words) (
+      start_fits,
+      (
+        unit_fits,
+        (
+          drain_fits,
+          (
+            counted_fits choice.HostPut (λ n. refl),
+            (
+              counted_fits choice.HostTake (λ n. refl),
+              (
+                host_take_on_fits,
+                (
+                  counted_fits choice.IocTake (λ n. refl),
+                  (
+                    counted_fits choice.IocHigh (λ n. refl),
+                    (
+                      counted_fits choice.IocNormal (λ n. refl),
+                      (
+                        counted_fits choice.IocOut (λ n. refl),
+                        (
+                          counted_fits choice.IocBack (λ n. refl),
+                          (
+                            counted_fits choice.IocPut (λ n. refl),
+                            (
+                              ioc_put_on_fits,
+                              (
+                                counted_fits choice.FabricTake (λ n. refl),
+                                (
+                                  fabric_run_fits,
+                                  (
+                                    counted_fits choice.FabricSay (λ n. refl),
+                                    (
+                                      counted_fits choice.FabricPut (λ n. refl),
+                                      (queues_fits, (disk_fits, (expander_fits, (plug_fits, (unplug_fits, (reset_fits, (treset_fits, (submit_fits, (abort_fits, tt))))))))),
+                                    ),
+                                  ),
+                                ),
+                              ),
+                            ),
+                          ),
+                        ),
+                      ),
+                    ),
+                  ),
+                ),
+              ),
+            ),
+          ),
+        ),
+      ),
+    )

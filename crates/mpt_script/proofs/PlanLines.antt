@@ -1,5 +1,5 @@
 -- The lines of a plan: what reads as one keeps its ranges, and a printed one reads as its statement.
-use Rattle.std.proofs.Common.{◌≡◌, ℕ, ◌^◌, ◌<◌, ◌==◌, ◌&&◌, nat_le, Bool, true, false, List, [], ◌∷◌, ◌++◌, length, Result, Ok, refl, ◌∙◌, ap, subst, codes, bytes_eq, decimal}
+use Rattle.std.proofs.Common.{◌≡◌, ℕ, ◌^◌, ◌<◌, ◌==◌, ◌&&◌, nat_le, Bool, true, false, List, [], ◌∷◌, ◌++◌, length, map, Result, Ok, refl, ◌∙◌, ap, subst, codes, decimal}
 use Rattle.std.specs.List.{list_all}
 use Rattle.mpt_lines.proofs.Texts.{is_word, number_decimal, word_decimal, words_last}
 use Rattle.mpt_lines.specs.declared.fault.Cause.{Cause}
@@ -10,7 +10,7 @@ use Rattle.mpt_lines.specs.declared.statement.Statement.{Statement}
 use Rattle.mpt_lines.specs.declared.statement.Statement.TheVariants as statement
 use Rattle.mpt_lines.specs.Commands.{command}
 use Rattle.mpt_lines.specs.Numbers.{◌>>=◌, address, number, within}
-use Rattle.mpt_lines.specs.Statements.{abort, disk, expander, fabric, plan_line, plug, queues, reset, schedule_line, shared_line, submit, submitter, treset, unplug}
+use Rattle.mpt_lines.specs.Statements.{abort, disk, expander, fabric, in_a_plan, plan_line, plan_words, plug, queues, reset, schedule_line, shared_words, submit, submitter, treset, unplug}
 use Rattle.mpt_lines.specs.Words.{nothing, one, three, two, words}
 use Rattle.mpt_trace.specs.declared.disk_spec.DiskSpec.{DiskSpec}
 use Rattle.mpt_trace.specs.declared.input.Input.{Input}
@@ -18,7 +18,7 @@ use Rattle.mpt_trace.specs.declared.input.Input.TheVariants as input
 use Rattle.mpt_trace.specs.Schedule.{input_line}
 use Rattle.mpt_script.specs.Allowed.{input_fits, input_statement, is_address, statement_fits}
 use Rattle.mpt_script.specs.Printed.{disk_text, expander_text}
-use Rattle.mpt_script.proofs.Accepted.{abort_fits, bind_ok, disk_fits, either, expander_fits, ok_value, plug_fits, queues_fits, refused, reset_fits, submit_fits, treset_fits, unplug_fits}
+use Rattle.mpt_script.proofs.Accepted.{abort_fits, bind_ok, disk_fits, expander_fits, ok_value, plug_fits, queues_fits, read_keeps, refused, reset_fits, submit_fits, treset_fits, unplug_fits}
 use Rattle.mpt_script.proofs.ReadBack.{ReadsAs, abort_back, disk_back, expander_back, plug_back, queues_back, submit_back, treset_back, unplug_back}
 
 -- ---- what reads as a line
@@ -107,22 +107,6 @@ abort_shared ws s e =
 reset_shared : (ws : List (List ℕ)) (s : Statement) → reset ws ≡ Ok s → is_shared s ≡ true
 reset_shared ws s e = shared_said (statement.Host input.Reset) s (bind_ok (nothing ws) _ s e).2 refl
 
-abbrev pub Kept : Result Statement Cause → Type 0
-Kept r = (s : Statement) → r ≡ Ok s → (is_shared s ≡ true) × (statement_fits s ≡ true)
-
-shared_line_fits : (word : List ℕ) (others : List (List ℕ)) → Kept (shared_line word others)
-shared_line_fits word others =
-    either Kept (bytes_eq word (codes "queues")) (queues others) _ (λ s e. (queues_shared others s e, queues_fits others s e))
-    (either Kept (bytes_eq word (codes "disk")) (disk others) _ (λ s e. (disk_shared others s e, disk_fits others s e))
-    (either Kept (bytes_eq word (codes "expander")) (expander others) _ (λ s e. (expander_shared others s e, expander_fits others s e))
-    (either Kept (bytes_eq word (codes "plug")) (plug others) _ (λ s e. (plug_shared others s e, plug_fits others s e))
-    (either Kept (bytes_eq word (codes "unplug")) (unplug others) _ (λ s e. (unplug_shared others s e, unplug_fits others s e))
-    (either Kept (bytes_eq word (codes "reset")) (reset others) _ (λ s e. (reset_shared others s e, reset_fits others s e))
-    (either Kept (bytes_eq word (codes "treset")) (treset others) _ (λ s e. (treset_shared others s e, treset_fits others s e))
-    (either Kept (bytes_eq word (codes "submit")) (submit others) _ (λ s e. (submit_shared others s e, submit_fits others s e))
-    (either Kept (bytes_eq word (codes "abort")) (abort others) _ (λ s e. (abort_shared others s e, abort_fits others s e))
-    (λ s e. refused Form s _ e)))))))))
-
 -- a statement of a plan has one of its forms, and its numbers keep their ranges
 abbrev pub Fits : PlanStatement → Type 0
 Fits (plan.Line said) = (is_shared said ≡ true) × (statement_fits said ≡ true)
@@ -131,30 +115,50 @@ Fits _ = Unit {0}
 fits_said : (f g : PlanStatement) → (let r : Result PlanStatement Cause = Ok f in r) ≡ Ok g → Fits f → Fits g
 fits_said f g e h = subst Fits (ok_value f g e) h
 
-abbrev pub PlanKept : Result PlanStatement Cause → Type 0
-PlanKept r = (s : PlanStatement) → r ≡ Ok s → Fits s
-
-submitter_fits : (ws : List (List ℕ)) → PlanKept (submitter ws)
-submitter_fits ws = λ s e.
+submitter_fits : (ws : List (List ℕ)) (s : PlanStatement) → submitter ws ≡ Ok s → Fits s
+submitter_fits ws s e =
     let w = bind_ok (one ws) _ s e in
     let n = bind_ok (number w.0) _ s w.2 in
     fits_said (plan.Submitter n.0) s n.2 tt
 
-fabric_fits : (ws : List (List ℕ)) → PlanKept (fabric ws)
-fabric_fits ws = λ s e. fits_said plan.Fabric s (bind_ok (nothing ws) _ s e).2 tt
+fabric_fits : (ws : List (List ℕ)) (s : PlanStatement) → fabric ws ≡ Ok s → Fits s
+fabric_fits ws s e = fits_said plan.Fabric s (bind_ok (nothing ws) _ s e).2 tt
 
-shared_fits : (word : List ℕ) (others : List (List ℕ)) → PlanKept (shared_line word others >>= (λ said. Ok (plan.Line said)))
-shared_fits word others = λ s e.
-    let said = bind_ok (shared_line word others) _ s e in
-    fits_said (plan.Line said.0) s said.2 (shared_line_fits word others said.0 said.1)
+-- a line that schedules have too
+shared_fits : (reads : List (List ℕ) → Result Statement Cause) → ((ws : List (List ℕ)) (s : Statement) → reads ws ≡ Ok s → is_shared s ≡ true) → ((ws : List (List ℕ)) (s : Statement) → reads ws ≡ Ok s → statement_fits s ≡ true)
+    → (ws : List (List ℕ)) (s : PlanStatement) → (reads ws >>= (λ said. Ok (plan.Line said))) ≡ Ok s → Fits s
+shared_fits reads shared fits ws s e =
+    let said = bind_ok (reads ws) _ s e in
+    fits_said (plan.Line said.0) s said.2 (shared ws said.0 said.1, fits ws said.0 said.1)
 
 -- what a line of a plan says keeps its ranges
-pub plan_line_fits : (ws : List (List ℕ)) → PlanKept (plan_line ws)
-plan_line_fits [] = λ s e. refused Form s _ e
-plan_line_fits (word ∷ others) =
-    either PlanKept (bytes_eq word (codes "submitter")) (submitter others) _ (submitter_fits others)
-    (either PlanKept (bytes_eq word (codes "fabric")) (fabric others) _ (fabric_fits others)
-    (shared_fits word others))
+pub plan_line_fits : (ws : List (List ℕ)) (s : PlanStatement) → plan_line ws ≡ Ok s → Fits s
+plan_line_fits =
+    read_keeps Fits (plan_words ++ map in_a_plan shared_words) (
+      submitter_fits,
+      (
+        fabric_fits,
+        (
+          shared_fits queues queues_shared queues_fits,
+          (
+            shared_fits disk disk_shared disk_fits,
+            (
+              shared_fits expander expander_shared expander_fits,
+              (
+                shared_fits plug plug_shared plug_fits,
+                (
+                  shared_fits unplug unplug_shared unplug_fits,
+                  (
+                    shared_fits reset reset_shared reset_fits,
+                    (shared_fits treset treset_shared treset_fits, (shared_fits submit submit_shared submit_fits, (shared_fits abort abort_shared abort_fits, tt))),
+                  ),
+                ),
+              ),
+            ),
+          ),
+        ),
+      ),
+    )
 
 -- ---- what a printed line reads as
 

@@ -16,7 +16,7 @@ use Rattle.mpt_trace.specs.declared.input.Input.TheVariants as input
 use Rattle.mpt_script.specs.declared.line.Line.{Line}
 use Rattle.mpt_script.specs.Allowed.{are_allowed, input_fits, input_statement, is_byte, is_host, is_schedule, is_unrefused, line_fits, statement_fits, statement_of}
 use Rattle.mpt_script.specs.Declarations.{Declared, after, has_disk, has_phy, is_misplaced, is_repeated, is_steps, is_too_many, is_unknown, judged, line_of, nothing_declared}
-use Rattle.mpt_script.specs.Schedules.{Fault, before, continued, line_value, next_number, says_nothing, schedule_from, schedule_of}
+use Rattle.mpt_script.specs.Schedules.{Fault, before, declared_after, line_before, line_value, next_number, says_nothing, schedule_from, schedule_of}
 use Rattle.mpt_script.proofs.Accepted.{bind_ok, ok_value, refused, schedule_line_fits}
 
 -- no cause holds of an answered statement, and the line is its own
@@ -167,7 +167,7 @@ read_allowed number d [] ls s h = no_lines d ls h
 read_allowed number d (rest ∷ []) ls s h = last_lines (length rest == 0) d _ ls h
 read_allowed number d (text ∷ next ∷ others) ls s h = went (line_value d text) refl h (λ d' ls' s' h'. read_allowed (next_number number) d' (next ∷ others) ls' s' h')
   where
-    went : (r : Result (Option Line) Cause) → line_value d text ≡ r → continued number d r (λ now. schedule_from (next_number number) now (next ∷ others)) ≡ Ok ls
+    went : (r : Result (Option Line) Cause) → line_value d text ≡ r → line_before number r (schedule_from (next_number number) (declared_after d r) (next ∷ others)) ≡ Ok ls
         → ((d' : Declared) (ls' : List Line) → Sound d' → schedule_from (next_number number) d' (next ∷ others) ≡ Ok ls' → are_allowed d' ls' ≡ true) → are_allowed d ls ≡ true
     went (Err cause) is e rest_allowed = cc
     went (Ok None) is e rest_allowed = rest_allowed d ls s e

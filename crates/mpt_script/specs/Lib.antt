@@ -5,7 +5,6 @@ pub use Rattle.mpt_lines.specs.Words
 pub mod Allowed
 pub mod Declarations
 pub mod Generator
-pub mod Hexadecimal
 pub mod PlanParts
 pub mod PlanState
 pub mod Planning

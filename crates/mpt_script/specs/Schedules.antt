@@ -38,17 +38,24 @@ abbrev pub before : Line → Result (List Line) Fault → Result (List Line) Fau
 before line (Ok lines) = Ok (line ∷ lines)
 before line (Err fault) = Err fault
 
--- a line of this number, and what the text stands for after it
-abbrev pub continued : ℕ → Declared → Result (Option Line) Cause → (Declared → Result (List Line) Fault) → Result (List Line) Fault
-continued number d (Err cause) others = Err (record { line = number; cause = cause })
-continued number d (Ok None) others = others d
-continued number d (Ok (Some line)) others = before line (others (after d line))
+-- what is declared after a line that was read
+abbrev pub declared_after : Declared → Result (Option Line) Cause → Declared
+declared_after d (Err cause) = d
+declared_after d (Ok said) = after_said d said
+
+-- what a line of this number says, before what the rest of the text stands for
+abbrev pub line_before : ℕ → Result (Option Line) Cause → Result (List Line) Fault → Result (List Line) Fault
+line_before number (Err cause) rest = Err (record { line = number; cause = cause })
+line_before number (Ok None) rest = rest
+line_before number (Ok (Some line)) rest = before line rest
 
 -- the lines from this number on; what follows the last line end is no line
 unfoldable pub schedule_from : ℕ → Declared → List (List ℕ) → Result (List Line) Fault
 schedule_from number d [] = Ok []
 schedule_from number d (rest ∷ []) = if length rest == 0 then Ok [] else Err (record { line = number; cause = Unended })
-schedule_from number d (line ∷ next ∷ others) = continued number d (line_value d line) (λ now. schedule_from (next_number number) now (next ∷ others))
+schedule_from number d (line ∷ next ∷ others) =
+    line_before number (line_value d line)
+    (schedule_from (next_number number) (declared_after d (line_value d line)) (next ∷ others))
 
 -- what a text stands for
 abbrev pub schedule_of : List ℕ → Result (List Line) Fault

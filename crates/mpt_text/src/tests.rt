@@ -31,3 +31,24 @@ fn prints(rt: HostRuntime) -> Result<(), Fail> {
     );
     Ok(())
 }
+
+#[test]
+fn reads_digits_or_refuses(rt: HostRuntime) -> Result<(), Fail> {
+    for (text, bytes) in [
+        (" 0a\tB\r\nc \n", Some(b"\x0a\xbc".as_slice())),
+        ("", Some(b"".as_slice())),
+        ("0", None),
+        ("0x00", None),
+        ("0g", None),
+        ("\u{c}00", None),
+    ] {
+        match parse_hex(rt.alloc(), text.as_bytes()) {
+            Ok(read) => assert_eq!(rt; Some(read.as_slice()), bytes, "{text}"),
+            Err(fault) => {
+                assert_eq!(rt; fault, HexFault::Form, "{text}");
+                assert!(rt; bytes.is_none(), "{text}");
+            }
+        }
+    }
+    Ok(())
+}

@@ -1,11 +1,12 @@
 -- The command that a schedule names: its CDB by SPC-4 and SBC-3, its length and its data.
 use Rattle.std.specs.Prelude.{◌≡◌, ℕ, ◌*◌, ◌^◌, ◌<◌, Some, nat_le, if◌then◌else◌, List, [], ◌∷◌, ◌++◌, replicate}
+use Rattle.mpi_names.specs.declared.limit.TheConstants.{MAX_TRANSFER}
 use Rattle.byteorder.specs.Endian.{big_bytes}
 use Rattle.scsi_disk.specs.Command.{length_named}
 use Rattle.scsi_disk.specs.declared.command.Command.{Command}
 use Rattle.mpt_trace.specs.declared.command_form.CommandForm.{CommandForm}
 use Rattle.mpt_trace.specs.declared.command_form.CommandForm.TheVariants as form
-use Rattle.mpt_trace.specs.declared.operation_code.TheConstants.{INQUIRY, READ_CAPACITY_10, READ_10, WRITE_10, READ_16, WRITE_16}
+use Rattle.mpi_names.specs.declared.operation_code.TheConstants.{INQUIRY, READ_CAPACITY_10, READ_10, WRITE_10, READ_16, WRITE_16}
 
 -- READ(10) and WRITE(10): LOGICAL BLOCK ADDRESS in bytes 2 to 5, TRANSFER LENGTH in 7 and 8
 abbrev pub transfer_10 : ℕ → ℕ → ℕ → List ℕ
@@ -39,7 +40,7 @@ len_of (form.Raw cdb len) = len
 
 -- blocks of one byte over and over, where they have at most 4,096 bytes; more aren't made
 abbrev pub filled : ℕ → ℕ → List ℕ
-filled blocks fill = if nat_le (512 * blocks) 4096 then replicate (512 * blocks) fill else []
+filled blocks fill = if nat_le (512 * blocks) MAX_TRANSFER then replicate (512 * blocks) fill else []
 
 -- the data for the disk
 abbrev pub payload_of : CommandForm → List ℕ

@@ -1,5 +1,5 @@
 -- Items read back, by their words.
-use Rattle.std.specs.Prelude.{ℕ, ◌^◌, ◌<◌, if◌then◌else◌, Option, Some, None, option_map, List, [], ◌∷◌, codes, drop, take}
+use Rattle.std.specs.Prelude.{ℕ, ◌^◌, ◌<◌, if◌then◌else◌, Option, Some, None, option_map, List, [], ◌∷◌, codes, drop, find, take}
 use Rattle.hex.specs.Hex.{IsBytes}
 use Rattle.scsi_disk.specs.declared.command.Command.{Command}
 use Rattle.scsi_disk.specs.declared.scsi_result.ScsiResult.{ScsiResult}
@@ -23,26 +23,32 @@ use Rattle.mpt_trace.specs.declared.outcome.Outcome.{Outcome}
 use Rattle.mpt_trace.specs.declared.outcome.Outcome.TheVariants as outcome
 use Rattle.mpt_trace.specs.declared.refusal.Refusal.{Refusal}
 use Rattle.mpt_trace.specs.declared.refusal.Refusal.TheVariants as refusal
+use Rattle.mpt_trace.specs.Items.{cause_text}
 use Rattle.mpt_trace.specs.Reading.{IsData, IsNumber, bytes_in, bytes_of_digits, descriptor_in, frame_in, hexadecimal, is_word, number}
 use Rattle.mpt_trace.specs.ReadingSchedule.{IsInput, input_in}
 
--- the cause of a refusal
+-- every cause of a refusal
+abbrev pub all_causes : List Refusal
+all_causes =
+    refusal.NumberUsed
+    ∷ refusal.NotOperational
+    ∷ refusal.NoDevice
+    ∷ refusal.BadLength
+    ∷ refusal.NoIdentifier
+    ∷ refusal.NotOpen
+    ∷ refusal.AbortOpen
+    ∷ refusal.AlreadyStarted
+    ∷ refusal.NotStarted
+    ∷ refusal.AlreadyResetting
+    ∷ refusal.Occupied
+    ∷ refusal.AlreadyPlugged
+    ∷ refusal.PlugsSpent
+    ∷ refusal.NotPlugged
+    ∷ []
+
+-- the cause of a refusal: the one that has this text
 abbrev pub cause_in : List (List ℕ) → Option Refusal
-cause_in (w ∷ []) =
-    if is_word w (codes "number-used") then Some refusal.NumberUsed
-    else (if is_word w (codes "not-operational") then Some refusal.NotOperational
-    else (if is_word w (codes "no-device") then Some refusal.NoDevice
-    else (if is_word w (codes "bad-length") then Some refusal.BadLength
-    else (if is_word w (codes "no-identifier") then Some refusal.NoIdentifier
-    else (if is_word w (codes "not-open") then Some refusal.NotOpen
-    else (if is_word w (codes "abort-open") then Some refusal.AbortOpen
-    else (if is_word w (codes "already-started") then Some refusal.AlreadyStarted
-    else (if is_word w (codes "not-started") then Some refusal.NotStarted
-    else (if is_word w (codes "already-resetting") then Some refusal.AlreadyResetting
-    else (if is_word w (codes "occupied") then Some refusal.Occupied
-    else (if is_word w (codes "already-plugged") then Some refusal.AlreadyPlugged
-    else (if is_word w (codes "plugs-spent") then Some refusal.PlugsSpent
-    else (if is_word w (codes "not-plugged") then Some refusal.NotPlugged else None)))))))))))))
+cause_in (w ∷ []) = find (λ cause. is_word w (cause_text cause)) all_causes
 cause_in _ = None
 
 -- what a disk answered

@@ -1,5 +1,5 @@
 -- The lines of a schedule read back, by their words.
-use Rattle.std.specs.Prelude.{ℕ, ◌^◌, ◌<◌, if◌then◌else◌, Option, Some, None, option_map, List, [], ◌∷◌, codes}
+use Rattle.std.specs.Prelude.{ℕ, ◌^◌, ◌<◌, if◌then◌else◌, Option, Some, None, option_map, List, [], ◌∷◌, codes, find}
 use Rattle.hex.specs.Hex.{IsBytes}
 use Rattle.mpt_trace.specs.declared.command_form.CommandForm.{CommandForm}
 use Rattle.mpt_trace.specs.declared.command_form.CommandForm.TheVariants as form
@@ -7,6 +7,7 @@ use Rattle.mpt_trace.specs.declared.input.Input.{Input}
 use Rattle.mpt_trace.specs.declared.input.Input.TheVariants as input
 use Rattle.mpt_trace.specs.declared.choice.Choice.{Choice}
 use Rattle.mpt_trace.specs.declared.choice.Choice.TheVariants as choice
+use Rattle.mpt_trace.specs.Schedule.{choice_line}
 use Rattle.mpt_trace.specs.Reading.{IsNumber, bytes_of_digits, hexadecimal, is_word, number}
 
 -- a command
@@ -44,20 +45,25 @@ input_in (w ∷ a ∷ b ∷ rest) =
     if is_word w (codes "submit") then option_map (λ form. input.Submit (number a) (hexadecimal 8 b) form) (command_in rest)
     else (if is_word w (codes "plug") then plug_in a b rest else None)
 
--- a choice
+-- every choice that has no number
+abbrev pub plain_choices : List Choice
+plain_choices =
+    choice.HostPut
+    ∷ choice.HostTake
+    ∷ choice.IocTake
+    ∷ choice.IocHigh
+    ∷ choice.IocNormal
+    ∷ choice.IocOut
+    ∷ choice.IocBack
+    ∷ choice.IocPut
+    ∷ choice.FabricTake
+    ∷ choice.FabricSay
+    ∷ choice.FabricPut
+    ∷ []
+
+-- a choice: the one that has this text, or one with a number
 abbrev pub choice_in : List (List ℕ) → Option Choice
-choice_in (w ∷ []) =
-    if is_word w (codes "host-put") then Some choice.HostPut
-    else (if is_word w (codes "host-take") then Some choice.HostTake
-    else (if is_word w (codes "ioc-take") then Some choice.IocTake
-    else (if is_word w (codes "ioc-high") then Some choice.IocHigh
-    else (if is_word w (codes "ioc-normal") then Some choice.IocNormal
-    else (if is_word w (codes "ioc-out") then Some choice.IocOut
-    else (if is_word w (codes "ioc-back") then Some choice.IocBack
-    else (if is_word w (codes "ioc-put") then Some choice.IocPut
-    else (if is_word w (codes "fabric-take") then Some choice.FabricTake
-    else (if is_word w (codes "fabric-say") then Some choice.FabricSay
-    else (if is_word w (codes "fabric-put") then Some choice.FabricPut else None))))))))))
+choice_in (w ∷ []) = find (λ chosen. is_word w (choice_line chosen)) plain_choices
 choice_in (w ∷ a ∷ []) =
     if is_word w (codes "host-take-on") then Some (choice.HostTakeOn (number a))
     else (if is_word w (codes "ioc-put-on") then Some (choice.IocPutOn (number a))

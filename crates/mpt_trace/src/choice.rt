@@ -1,5 +1,5 @@
 //! Which step is next.
-use crate::names::Tag;
+use mpi_names::Tag;
 
 /// A step that a schedule chooses.
 #[derive(Clone, Copy)]

@@ -3,8 +3,8 @@ ghost use Rattle.std.specs.Prelude.{◌≡◌, ◌*◌, IfOk};
 ghost use Rattle.mpt_trace.specs.Command.{cdb_of, command_named, filled, len_of, payload_of, transfer_10, transfer_16};
 
 use crate::command_form::CommandForm;
-use crate::operation_code::{INQUIRY, READ_10, READ_16, READ_CAPACITY_10, WRITE_10, WRITE_16};
 use byteorder::{BigEndian, ByteOrder};
+use mpi_names::{INQUIRY, READ_10, READ_16, READ_CAPACITY_10, WRITE_10, WRITE_16};
 use mpt_text::OutOfMemory;
 use scsi_disk::{Bytes, Cdb, Command};
 use std::alloc::Global;

@@ -1,5 +1,5 @@
 //! The disks of a run.
-use crate::names::Address;
+use mpi_names::Address;
 
 /// A disk as a schedule or a plan declares it.
 #[derive(Clone, Copy)]

@@ -5,9 +5,9 @@ use crate::choice::Choice;
 use crate::input::Input;
 use crate::item::Item;
 use crate::lane::LaneName;
-use crate::names::{Address, Handle, Smid, Tag};
 use crate::outcome::{AbortOutcome, Outcome, TargetOutcome};
 use crate::refusal::{Refusal, RefusedCall};
+use mpi_names::{Address, Handle, Smid, Tag};
 use mpt_text::OutOfMemory;
 use std::alloc::Global;
 

@@ -8,11 +8,11 @@ use crate::entry::Entry;
 use crate::item::Item;
 use crate::item_words::{push_answer, push_cause, push_item, push_lane, push_refuse_submit};
 use crate::lane::LaneName;
-use crate::names::{Address, Handle, Smid, Tag};
 use crate::numbers::{push_address, push_addressed, push_handle, push_number};
 use crate::outcome::{AbortOutcome, TargetOutcome};
 use crate::refusal::{Refusal, RefusedCall};
 use crate::schedule_words::{push_choice, push_input};
+use mpi_names::{Address, Handle, Smid, Tag};
 use mpt_text::{OutOfMemory, Text};
 use std::alloc::Global;
 

@@ -2,7 +2,7 @@
 ghost use Rattle.std.specs.Prelude.{◌≡◌};
 
 use crate::command_form::CommandForm;
-use crate::names::Address;
+use mpi_names::Address;
 use mpt_text::OutOfMemory;
 use std::alloc::Global;
 

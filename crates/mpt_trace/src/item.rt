@@ -2,9 +2,9 @@
 ghost use Rattle.std.specs.Prelude.{◌≡◌, IfOk};
 
 use crate::input::Input;
-use crate::names::{Address, Smid, Tag};
 use crate::outcome::{Outcome, copy_result};
 use crate::refusal::Refusal;
+use mpi_names::{Address, Smid, Tag};
 use mpt_text::OutOfMemory;
 use scsi_disk::{Bytes, Command, ScsiResult};
 use std::alloc::Global;

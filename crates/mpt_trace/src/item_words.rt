@@ -7,7 +7,6 @@ ghost use Rattle.mpt_trace.specs.Items.{answer_text, ask_text, back_text, cause_
 
 use crate::item::{Ask, Back, Down, Item, Out, Tell, Up};
 use crate::lane::LaneName;
-use crate::names::{Address, Smid, Tag};
 use crate::numbers::{
     push_address, push_addressed, push_byte, push_bytes, push_descriptor, push_dword, push_half,
     push_number, push_place,
@@ -15,6 +14,7 @@ use crate::numbers::{
 use crate::outcome::Outcome;
 use crate::refusal::Refusal;
 use crate::schedule_words::push_input;
+use mpi_names::{Address, Smid, Tag};
 use mpt_text::{OutOfMemory, Text};
 use scsi_disk::{Command, ScsiResult};
 

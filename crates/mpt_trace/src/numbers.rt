@@ -3,8 +3,8 @@ ghost use Rattle.std.specs.Prelude.{◌≡◌, ◌++◌, OnOk, decimal};
 ghost use Rattle.mpt_text.specs.Words.{bytes_text, hex_number};
 ghost use Rattle.mpt_trace.specs.Numbers.{address_text, byte_text, descriptor_text, handle_text, place_text};
 
-use crate::names::{Address, Handle};
 use byteorder::{ByteOrder, LittleEndian};
+use mpi_names::{Address, Handle};
 use mpt_text::{OutOfMemory, Text};
 
 /// Adds a SAS address: 16 hexadecimal digits.

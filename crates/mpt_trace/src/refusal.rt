@@ -1,5 +1,5 @@
 //! Why a call is refused.
-use crate::names::Address;
+use mpi_names::Address;
 
 /// The cause of a refusal.
 #[derive(Clone, Copy)]

@@ -7,8 +7,8 @@ ghost use Rattle.mpt_trace.specs.Schedule.{blocks_text, choice_line, command_tex
 use crate::choice::Choice;
 use crate::command_form::CommandForm;
 use crate::input::Input;
-use crate::names::Address;
 use crate::numbers::{push_address, push_addressed, push_byte, push_number, push_place};
+use mpi_names::Address;
 use mpt_text::{OutOfMemory, Text};
 
 /// Adds an input's line in a schedule, without the end of the line.

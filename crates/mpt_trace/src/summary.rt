@@ -2,7 +2,7 @@
 ghost use Rattle.std.specs.Prelude.{◌≡◌};
 
 use crate::host_state::HostState;
-use crate::names::Address;
+use mpi_names::Address;
 use std::marker::Model;
 
 /// A disk at the end of a run.

@@ -5,8 +5,9 @@ use Rattle.removal.specs.declared.phase.Phase.{Phase}
 use Rattle.removal.specs.declared.phase.Phase.TheVariants as phase
 use Rattle.removal.specs.Phases.{after_added, after_gone, after_page, after_task_done, after_removed, after_grant}
 
--- a call that concerns one handle
+-- a call that concerns one handle; `cleared` concerns all of them
 pub data Call : Type 0 where
+  cleared : Call
   added : Call
   gone : Call
   page : ℕ → Option ℕ → Call
@@ -15,6 +16,7 @@ pub data Call : Type 0 where
   granted : ℕ → Call
 
 abbrev pub after_call : Phase → Call → Phase
+after_call p cleared = phase.Absent
 after_call p added = after_added p
 after_call p gone = after_gone p
 after_call p (page smid answer) = after_page p smid answer
@@ -32,10 +34,22 @@ InOrder [] calls = Unit {0}
 InOrder (x ∷ xs) [] = ⊥
 InOrder (x ∷ xs) (call ∷ calls) = ((x ≡ call) × InOrder xs calls) ⊎ InOrder (x ∷ xs) calls
 
+-- the table wasn't cleared
+abbrev pub IsUncleared : List Call → Type 0
+IsUncleared [] = Unit {0}
+IsUncleared (cleared ∷ calls) = ⊥
+IsUncleared (added ∷ calls) = IsUncleared calls
+IsUncleared (gone ∷ calls) = IsUncleared calls
+IsUncleared (page smid answer ∷ calls) = IsUncleared calls
+IsUncleared (task_done smid ∷ calls) = IsUncleared calls
+IsUncleared (removed smid ∷ calls) = IsUncleared calls
+IsUncleared (granted smid ∷ calls) = IsUncleared calls
+
 -- a target reset was posted and answered, and after it a remove device was posted and answered
 abbrev pub RemovedByHandshake : List Call → Type 0
 RemovedByHandshake calls = (reset remove : ℕ) × InOrder (gone ∷ granted reset ∷ task_done reset ∷ granted remove ∷ removed remove ∷ []) calls
 
--- no handle of a ready device becomes absent in another way
+-- no handle of a ready device becomes absent in another way, unless the table is cleared
 abbrev pub ReadyIsRemovedByHandshake : Type 0
-ReadyIsRemovedByHandshake = (address : ℕ) (calls : List Call) → after_calls (phase.Ready address) calls ≡ phase.Absent → RemovedByHandshake calls
+ReadyIsRemovedByHandshake = (address : ℕ) (calls : List Call) → IsUncleared calls
+    → after_calls (phase.Ready address) calls ≡ phase.Absent → RemovedByHandshake calls

@@ -3,16 +3,17 @@ ghost use Rattle.std.specs.Prelude.{◌≡◌, ◌≢◌, ◌↔◌, ◌-◌, �
 ghost use Rattle.removal.specs.Phases.{after_added, after_gone, lost_address, after_page, after_task_done, after_removed, Waits, after_grant, is_ready_at as ready_at};
 ghost use Rattle.removal.specs.Handles.{IsHandle, all_absent, phase_at, with_phase, ready_handle};
 
-use crate::phase::{Address, Handle, Phase, Smid};
+use crate::phase::Phase;
+use mpi_names::{Address, DISK_HANDLES, FIRST_DISK_HANDLE, Handle, LAST_DISK_HANDLE, Smid};
 use std::marker::Model;
 
 /// The least handle that a disk gets.
-pub const FIRST_HANDLE: Handle = 0x0009;
+pub const FIRST_HANDLE: Handle = FIRST_DISK_HANDLE;
 
 /// The greatest handle that a disk gets.
-pub const LAST_HANDLE: Handle = 0x0048;
+pub const LAST_HANDLE: Handle = LAST_DISK_HANDLE;
 
-const HANDLES: usize = 64;
+const HANDLES: usize = DISK_HANDLES;
 
 /// The handle isn't absent, so its device was added already.
 #[derive(Clone, Copy, Debug, PartialEq, Eq)]
@@ -172,8 +173,8 @@ impl Handles {
 
 fn place_of(handle: Handle) -> usize
     requires { IsHandle handle }
-    ensures value { result ≡ handle - 0x0009 }
-    ensures within { result < 64 }
+    ensures value { result ≡ handle - FIRST_HANDLE }
+    ensures within { result < HANDLES }
 {
     (handle - FIRST_HANDLE) as usize
 }

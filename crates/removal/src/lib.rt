@@ -7,7 +7,8 @@ mod phase;
 
 pub use handles::{FIRST_HANDLE, Handles, LAST_HANDLE, NotAbsent};
 pub use law::ready_is_removed_by_handshake;
-pub use phase::{Address, Handle, Phase, Smid};
+pub use mpi_names::{Address, Handle, Smid};
+pub use phase::Phase;
 
 #[cfg(test)]
 mod tests;

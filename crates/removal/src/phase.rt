@@ -1,13 +1,6 @@
 //! The phases of a device handle.
 
-/// A device handle, as the controller gives it out (mpi2_sas.h, DevHandle).
-pub type Handle = u16;
-
-/// The identifier of a post that is on its way (mpi2.h, SMID).
-pub type Smid = u16;
-
-/// A device's SAS address.
-pub type Address = u64;
+use mpi_names::{Address, Smid};
 
 /// How far the host is with a device handle. A phase with a [Smid] has a post with that identifier on
 /// its way; a waiting phase has no identifier yet.

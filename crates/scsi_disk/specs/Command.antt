@@ -5,7 +5,8 @@ use Rattle.scsi_disk.specs.declared.command.Direction.{Direction}
 use Rattle.scsi_disk.specs.declared.command.Direction.TheVariants as direction
 use Rattle.scsi_disk.specs.declared.scsi_result.ScsiResult.{ScsiResult}
 use Rattle.scsi_disk.specs.declared.scsi_result.TheConstants.{GOOD}
-use Rattle.scsi_disk.specs.declared.operation.TheConstants.{WRITE_10, WRITE_16}
+use Rattle.mpi_names.specs.declared.limit.TheConstants.{MAX_TRANSFER}
+use Rattle.mpi_names.specs.declared.operation_code.TheConstants.{WRITE_10, WRITE_16}
 use Rattle.scsi_disk.specs.Operation.{operation_code, operation_of, named_length}
 
 -- the number of bytes that the CDB names, if the disks know its code
@@ -31,7 +32,7 @@ agrees (Some named) len = named == len
 abbrev pub fits : Command → Bool
 fits command =
     nat_le 1 (length command.cdb) && nat_le (length command.cdb) 16
-    && nat_le command.len 4096 && agrees (length_named command.cdb) command.len
+    && nat_le command.len MAX_TRANSFER && agrees (length_named command.cdb) command.len
     && length command.payload == (if is_write command.cdb then command.len else 0)
 
 -- the number of bytes that a command moved, given its result

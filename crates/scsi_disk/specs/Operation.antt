@@ -5,7 +5,7 @@ use Rattle.byteorder.specs.Endian.{big_number}
 use Rattle.scsi_disk.specs.declared.operation.Transfer.{Transfer}
 use Rattle.scsi_disk.specs.declared.operation.Operation.{Operation}
 use Rattle.scsi_disk.specs.declared.operation.Operation.TheVariants.{TestUnitReady, Inquiry, ReadCapacity, Read, Write}
-use Rattle.scsi_disk.specs.declared.operation.TheConstants.{TEST_UNIT_READY, INQUIRY, READ_CAPACITY_10, READ_10, WRITE_10, READ_16, WRITE_16}
+use Rattle.mpi_names.specs.declared.operation_code.TheConstants.{TEST_UNIT_READY, INQUIRY, READ_CAPACITY_10, READ_10, WRITE_10, READ_16, WRITE_16}
 
 -- OPERATION CODE
 abbrev pub operation_code : List ℕ → ℕ

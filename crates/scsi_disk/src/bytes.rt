@@ -2,6 +2,7 @@
 ghost use Rattle.std.specs.Prelude.{◌≡◌, ◌≤◌, ◌==◌, [], IfOk, length, vec_len};
 
 use crate::out_of_memory::OutOfMemory;
+use mpi_names::MAX_TRANSFER;
 use std::alloc::Global;
 use std::marker::Model;
 
@@ -23,7 +24,7 @@ impl Model for Bytes {
 
 impl Bytes {
     /// The greatest number of bytes.
-    pub const MAX_LEN: usize = 4096;
+    pub const MAX_LEN: usize = MAX_TRANSFER;
 
     /// These bytes, in the memory that they are in. The caller keeps them to `MAX_LEN`.
     pub fn new(items: Vec<u8>) -> Bytes

@@ -4,9 +4,10 @@ ghost use Rattle.scsi_disk.specs.Command.{direction_of, fits, is_write as is_wri
 
 use crate::bytes::Bytes;
 use crate::cdb::Cdb;
-use crate::operation::{Operation, WRITE_10, WRITE_16};
+use crate::operation::Operation;
 use crate::out_of_memory::OutOfMemory;
 use crate::scsi_result::{GOOD, ScsiResult};
+use mpi_names::{MAX_TRANSFER, WRITE_10, WRITE_16};
 use std::alloc::Global;
 
 /// A command for a disk.
@@ -96,7 +97,7 @@ pub fn command_fits(command: &Command) -> bool
     };
     1 <= cdb_len
         && cdb_len <= 16
-        && command.len <= 4096
+        && command.len <= MAX_TRANSFER as u32
         && named == u64::from(command.len)
         && command.payload.len() == payload_len as usize
 }

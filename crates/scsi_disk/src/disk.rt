@@ -6,11 +6,9 @@ ghost use Rattle.scsi_disk.specs.Performed.{capacity_data as capacity_data_of};
 use crate::operation::Transfer;
 use crate::out_of_memory::OutOfMemory;
 use byteorder::{BigEndian, ByteOrder};
+use mpi_names::Address;
 use std::alloc::Global;
 use std::marker::Model;
-
-/// A SAS address.
-pub type Address = u64;
 
 /// The length of a block, in bytes.
 pub const BLOCK_LEN: usize = 512;
@@ -33,10 +31,7 @@ impl Model for Disk {
 }
 
 impl Disk {
-    /// The greatest number of blocks.
-    pub const MAX_BLOCKS: u16 = 1024;
-
-    /// A disk of these many blocks, from 1 to `MAX_BLOCKS`, that are all zero; or OutOfMemory.
+    /// A disk of these many blocks, from 1 to 1,024, that are all zero; or OutOfMemory.
     pub fn new(alloc: Global, address: Address, blocks: u16) -> Result<Disk, OutOfMemory>
         requires some_block { 1 ≤ blocks }
         requires at_most { blocks ≤ 1024 }

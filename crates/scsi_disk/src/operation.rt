@@ -3,21 +3,7 @@ ghost use Rattle.std.specs.Prelude.{◌≡◌};
 ghost use Rattle.scsi_disk.specs.Operation.{operation_of, transfer_10 as transfer_of_10, transfer_16 as transfer_of_16};
 
 use crate::cdb::Cdb;
-
-/// OPERATION CODE of TEST UNIT READY (SPC-4).
-pub const TEST_UNIT_READY: u8 = 0x00;
-/// OPERATION CODE of INQUIRY (SPC-4).
-pub const INQUIRY: u8 = 0x12;
-/// OPERATION CODE of READ CAPACITY(10) (SBC-3).
-pub const READ_CAPACITY_10: u8 = 0x25;
-/// OPERATION CODE of READ(10) (SBC-3).
-pub const READ_10: u8 = 0x28;
-/// OPERATION CODE of WRITE(10) (SBC-3).
-pub const WRITE_10: u8 = 0x2a;
-/// OPERATION CODE of READ(16) (SBC-3).
-pub const READ_16: u8 = 0x88;
-/// OPERATION CODE of WRITE(16) (SBC-3).
-pub const WRITE_16: u8 = 0x8a;
+use mpi_names::{INQUIRY, READ_10, READ_16, READ_CAPACITY_10, TEST_UNIT_READY, WRITE_10, WRITE_16};
 
 /// The blocks that a READ or a WRITE names (SBC-3).
 #[derive(Clone, Copy, Debug)]

@@ -1,10 +1,11 @@
 //! The result of a command.
 use crate::bytes::Bytes;
+use mpi_names::{MPI2_SCSI_STATUS_CHECK_CONDITION, MPI2_SCSI_STATUS_GOOD};
 
 /// SCSI status GOOD (SAM-5).
-pub const GOOD: u8 = 0x00;
+pub const GOOD: u8 = MPI2_SCSI_STATUS_GOOD;
 /// SCSI status CHECK CONDITION (SAM-5).
-pub const CHECK_CONDITION: u8 = 0x02;
+pub const CHECK_CONDITION: u8 = MPI2_SCSI_STATUS_CHECK_CONDITION;
 
 /// What a disk answered to a command.
 #[derive(Debug, Drop)]

@@ -3,3 +3,4 @@ pub mod ScsiReplyFields
 pub mod TaskAskFields
 pub mod TaskReplyFields
 pub mod ScsiReplyTail
+mod Blank

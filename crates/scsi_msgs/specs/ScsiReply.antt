@@ -1,10 +1,10 @@
 -- A SCSI IO reply: the layout of its fixed part, the numbers of its fields, its length and tail, the bytes that stand for it, and which bytes are refused.
-use Rattle.std.specs.Prelude.{◌≡◌, ℕ, ◌-◌, ◌*◌, ◌≤◌, Bool, ◌&&◌, ◌==◌, nat_lt, if◌then◌else◌, Option, Some, None, List, [], ◌∷◌, ◌++◌, length, take, drop, replicate, codes}
+use Rattle.std.specs.Prelude.{◌≡◌, ℕ, ◌-◌, ◌*◌, ◌≤◌, Bool, ◌&&◌, ◌==◌, Option, List, [], ◌∷◌, length, take, drop, codes}
 use Rattle.std.specs.List.{list_all}
 use Rattle.std.specs.Option.{option_or}
 use Rattle.mpi_layout.specs.Rows.{Shape, Stands, field, first_fault, number, values_fit}
+use Rattle.mpi_layout.specs.Tail.{cut_short, padded}
 use Rattle.mpi_layout.specs.declared.fault.Fault.{Fault}
-use Rattle.mpi_layout.specs.declared.fault.Fault.TheVariants.{Short}
 use Rattle.mpi_layout.specs.declared.row.Rule.TheVariants.{Any, Is, Between}
 use Rattle.scsi_msgs.specs.declared.scsi_reply.ScsiReply.{ScsiReply}
 
@@ -47,19 +47,11 @@ scsi_reply_values m =
 abbrev pub scsi_reply_length : ScsiReply → ℕ
 scsi_reply_length m = 4 * m.msg_length
 
--- the bytes, and zeros behind them up to n
-abbrev pub padded : ℕ → List ℕ → List ℕ
-padded n bytes = bytes ++ replicate (n - length bytes) 0
-
 -- the bytes stand for the reply: they are enough, the fixed part's rows have its numbers, and the bytes from 40 up to its length are its tail, which is 0 past them
 pub record ScsiReplyStands (m : ScsiReply) (bytes : List ℕ) : Type 0 where
   pub fixed : Stands scsi_reply_layout (scsi_reply_values m) bytes
   pub whole : scsi_reply_length m ≤ length bytes
   pub tail : m.tail ≡ padded 88 (take (scsi_reply_length m - 40) (drop 40 bytes))
-
--- Short where there are fewer bytes than are needed
-abbrev pub cut_short : ℕ → List ℕ → Option Fault
-cut_short need bytes = if nat_lt (length bytes) need then Some (Short need (length bytes)) else None
 
 -- the refusal of the bytes: the first fault of the fixed part, or else too few bytes for the MsgLength
 abbrev pub scsi_reply_refusal : List ℕ → Option Fault

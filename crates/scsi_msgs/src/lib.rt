@@ -5,8 +5,6 @@ mod scsi_io;
 mod scsi_reply;
 mod task_ask;
 mod task_reply;
-#[cfg(test)]
-mod tests;
 
 pub use scsi_io::{ScsiIo, decode_scsi_io, encode_scsi_io, scsi_io_fits};
 pub use scsi_reply::{ScsiReply, decode_scsi_reply, encode_scsi_reply, scsi_reply_fits};

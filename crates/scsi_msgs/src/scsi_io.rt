@@ -130,6 +130,48 @@ pub struct ScsiIo {
 }
 
 impl ScsiIo {
+    /// A request that has in each row 0 or the first number that the row's rule names.
+    pub const BLANK: ScsiIo = ScsiIo {
+        dev_handle: 0,
+        chain_offset: 0,
+        function: 0x00,
+        reserved_04: 0,
+        reserved_06: 0,
+        msg_flags: 0,
+        vp_id: 0,
+        vf_id: 0,
+        reserved_0a: 0,
+        sense_buffer_low_address: 0,
+        sgl_flags: 0,
+        sense_buffer_length: 0,
+        reserved_13: 0,
+        sgl_offset0: 24,
+        sgl_offset1: 0,
+        sgl_offset2: 0,
+        sgl_offset3: 0,
+        skip_count: 0,
+        data_length: 0,
+        bidirectional_data_length: 0,
+        io_flags: 0,
+        eedp_flags: 0,
+        eedp_block_size: 0,
+        secondary_reference_tag: 0,
+        secondary_application_tag: 0,
+        application_tag_translation_mask: 0,
+        lun: 0,
+        control_low: 0,
+        control_attribute: 0,
+        control_high: 0,
+        control_direction: 0,
+        cdb_40: 0,
+        cdb_48: 0,
+        cdb_50: 0,
+        cdb_58: 0,
+        sge_length: 0,
+        sge_flags: 0xd3,
+        sge_address: 0,
+    };
+
     /// The layout: 38 rows, 108 bytes.
     pub fn layout() -> Layout<38>
         ensures { result ≡ scsi_io_layout }

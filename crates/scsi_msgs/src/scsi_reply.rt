@@ -1,10 +1,9 @@
 //! A SCSI IO reply.
-ghost use Rattle.std.specs.Prelude.{◌≡◌, ◌==◌, ◌-◌, ◌≤◌, ◌++◌, IsTrue, IfOk, MatchResult, Ok, Some, length, drop, take};
-ghost use Rattle.std.specs.List.{list_all};
+ghost use Rattle.std.specs.Prelude.{◌≡◌, ◌-◌, ◌≤◌, IsTrue, IfOk, MatchResult, Ok, Some, length, drop, take};
 ghost use Rattle.mpi_layout.specs.Rows.{cut_from};
-ghost use Rattle.scsi_msgs.specs.ScsiReply.{ScsiReplyStands, padded, scsi_reply_fit, scsi_reply_layout, scsi_reply_length, scsi_reply_refusal, scsi_reply_values};
+ghost use Rattle.scsi_msgs.specs.ScsiReply.{ScsiReplyStands, scsi_reply_fit, scsi_reply_layout, scsi_reply_length, scsi_reply_refusal, scsi_reply_values};
 
-use mpi_layout::{Fault, Layout, Row, Rule, fits, low, number, read, write};
+use mpi_layout::{Fault, Layout, Row, Rule, fits, is_zero_from, low, number, padded, read, write};
 
 // The length of the fixed part in bytes.
 const FIXED: usize = 40;
@@ -79,6 +78,30 @@ pub struct ScsiReply {
 }
 
 impl ScsiReply {
+    /// A reply that has in each row 0 or the first number that the row's rule names, and no tail.
+    pub const BLANK: ScsiReply = ScsiReply {
+        dev_handle: 0,
+        msg_length: 10,
+        function: 0x00,
+        reserved_04: 0,
+        reserved_06: 0,
+        msg_flags: 0,
+        vp_id: 0,
+        vf_id: 0,
+        reserved_0a: 0,
+        scsi_status: 0,
+        scsi_state: 0,
+        ioc_status: 0,
+        ioc_log_info: 0,
+        transfer_count: 0,
+        sense_count: 0,
+        response_info: 0,
+        task_tag: 0,
+        scsi_status_qualifier: 0,
+        bidirectional_transfer_count: 0,
+        tail: [0; 88],
+    };
+
     /// The layout of the fixed part: 19 rows, 40 bytes.
     pub fn layout() -> Layout<19>
         ensures { result ≡ scsi_reply_layout }
@@ -157,24 +180,6 @@ impl ScsiReply {
     }
 }
 
-// Writes the bytes at the front. The others stay.
-fn put_front(bytes: &[u8], out: &mut [u8])
-    requires { length bytes.now ≤ length out.old }
-    ensures { out.new ≡ bytes.now ++ drop (length bytes.now) out.old }
-{
-    out[..bytes.len()].copy_from_slice(bytes);
-}
-
-// The bytes, and zeros behind them.
-fn padded(bytes: &[u8]) -> [u8; 88]
-    requires { length bytes.now ≤ 88 }
-    ensures { result ≡ padded 88 bytes.now }
-{
-    let mut all = [0; 88];
-    put_front(bytes, &mut all);
-    all
-}
-
 /// Reads the reply from the front of the bytes: the reply that they stand for, or their refusal.
 /// Bytes past the reply's length play no part.
 ///
@@ -198,13 +203,6 @@ pub fn decode_scsi_reply(bytes: &[u8]) -> Result<ScsiReply, Fault>
     }
     m.tail = padded(&bytes[FIXED..need]);
     Ok(m)
-}
-
-// Whether the bytes from this place on are 0.
-fn is_zero_from(bytes: &[u8], from: usize) -> bool
-    ensures { result ≡ list_all (λ byte. byte == 0) (drop from bytes.now) }
-{
-    bytes.iter().skip(from).all(|byte| *byte == 0)
 }
 
 /// Whether each field fits its row's width and rule, and the tail is 0 past the reply's length, so

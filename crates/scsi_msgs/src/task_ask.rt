@@ -67,6 +67,27 @@ pub struct TaskAsk {
 }
 
 impl TaskAsk {
+    /// A request that has in each row 0 or the first number that the row's rule names.
+    pub const BLANK: TaskAsk = TaskAsk {
+        dev_handle: 0,
+        chain_offset: 0,
+        function: 0x01,
+        reserved_04: 0,
+        task_type: 1,
+        reserved_06: 0,
+        msg_flags: 0,
+        vp_id: 0,
+        vf_id: 0,
+        reserved_0a: 0,
+        lun: 0,
+        reserved_14: 0,
+        reserved_1c: 0,
+        reserved_24: 0,
+        reserved_2c: 0,
+        task_mid: 0,
+        reserved_32: 0,
+    };
+
     /// The layout: 17 rows, 52 bytes.
     pub fn layout() -> Layout<17>
         ensures { result ≡ task_ask_layout }

@@ -60,6 +60,25 @@ pub struct TaskReply {
 }
 
 impl TaskReply {
+    /// A reply that has in each row 0 or the first number that the row's rule names.
+    pub const BLANK: TaskReply = TaskReply {
+        dev_handle: 0,
+        msg_length: 7,
+        function: 0x01,
+        response_code: 0,
+        task_type: 0,
+        reserved_06: 0,
+        msg_flags: 0,
+        vp_id: 0,
+        vf_id: 0,
+        reserved_0a: 0,
+        reserved_0c: 0,
+        ioc_status: 0,
+        ioc_log_info: 0,
+        termination_count: 0,
+        response_info: 0,
+    };
+
     /// The layout: 15 rows, 28 bytes.
     pub fn layout() -> Layout<15>
         ensures { result ≡ task_reply_layout }

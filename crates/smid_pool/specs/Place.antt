@@ -1,6 +1,7 @@
 -- How a pool keeps its slots: a place for each identifier, and the records in a slab.
 use Rattle.std.specs.Prelude.{◌≡◌, ℕ, zero, suc, ◌≤◌, Bool, true, false, List, length, slice_index_or, count_by, Option, Some, None, IsSome}
 use Rattle.slab.specs.Slab.{Slab, get, slab_len}
+use Rattle.mpi_names.specs.declared.smid.TheConstants.{SMIDS}
 use Rattle.smid_pool.specs.declared.place.Place.{Place}
 use Rattle.smid_pool.specs.declared.place.Place.TheVariants.{Vacant, Holding, Waiting}
 use Rattle.smid_pool.specs.Pool.{Slot, Free, Open, Parked}
@@ -34,8 +35,8 @@ module _ {R : Type 0} where
 
   -- there is room for a record of each identifier, and each open one has a record of its own
   pub record IsSound (records : Slab R) (places : List Place) : Type 0 where
-    pub size : length places ≡ 280
-    pub room : 280 ≤ records.capacity
+    pub size : length places ≡ SMIDS
+    pub room : SMIDS ≤ records.capacity
     pub counted : slab_len records ≡ count_by is_holding places
     pub stored : (i key : ℕ) → slice_index_or places i Vacant ≡ Holding key → IsSome (get records key)
     pub apart : (i j key : ℕ) → slice_index_or places i Vacant ≡ Holding key → slice_index_or places j Vacant ≡ Holding key → i ≡ j

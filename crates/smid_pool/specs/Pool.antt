@@ -2,6 +2,7 @@
 -- So each of 1 to 280 is free, open or parked, and no two of them at once.
 use Rattle.std.specs.Prelude.{◌≡◌, ℕ, zero, suc, ◌+◌, ◌-◌, Bool, true, false, not, List, take, drop, slice_index_or, slice_set, replicate, position, count_by, Option, Some, None, option_map, refl}
 use Rattle.std.specs.Coded.{Coded, code_by, coded_option}
+use Rattle.mpi_names.specs.declared.smid.TheConstants.{SMIDS}
 use Rattle.smid_pool.specs.declared.class.Class.{Class}
 use Rattle.smid_pool.specs.Class.{before, size_of}
 
@@ -59,7 +60,7 @@ module _ {R : Type 0} where
 
   -- every identifier is free
   abbrev pub all_free : List (Slot R)
-  all_free = replicate 280 Free
+  all_free = replicate SMIDS Free
 
   -- a slot as the record that it may have, where it isn't free
   abbrev pub stored : Slot R → Option (Option R)

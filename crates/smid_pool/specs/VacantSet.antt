@@ -1,6 +1,7 @@
 -- A set of places as bits, 64 to a word.
 use Rattle.std.specs.Prelude.{◌≡◌, ℕ, ◌+◌, ◌<◌, ◌≤◌, ◌/◌, ◌%◌, ◌==◌, Bool, true, false, List, slice_index, slice_index_or}
 use Rattle.std.specs.Int.{bit_at}
+use Rattle.mpi_names.specs.declared.smid.TheConstants.{SMIDS}
 use Rattle.smid_pool.specs.declared.class.Class.{Class}
 use Rattle.smid_pool.specs.declared.place.Place.{Place}
 use Rattle.smid_pool.specs.declared.place.Place.TheVariants.{Vacant}
@@ -27,7 +28,7 @@ pub record IsFirst (words : List ℕ) (class : Class) (first : ℕ) : Type 0 whe
 -- the set has the vacant places
 abbrev pub IsMarked : List ℕ → List Place → Type 0
 IsMarked words places =
-    (place : ℕ) → place < 280 → has words place ≡ is_vacant (slice_index_or places place Vacant)
+    (place : ℕ) → place < SMIDS → has words place ≡ is_vacant (slice_index_or places place Vacant)
 
 -- the places and the records go together, and the vacant places are marked
 pub record IsConsistent {R : Type 0} (records : Slab R) (places : List Place) (words : List ℕ) : Type 0 where

@@ -2,11 +2,7 @@
 ghost use Rattle.std.specs.Prelude.{◌≡◌, ◌+◌};
 ghost use Rattle.smid_pool.specs.Class.{before, size_of};
 
-/// An identifier of a system message request (mpi2.h, SMID).
-pub type Smid = u16;
-
-/// The number of identifiers, which are 1 to 280.
-pub const COUNT: usize = 280;
+use mpi_names::{HIGH_PRIORITY_SMIDS, INTERNAL_SMIDS, SCSI_IO_SMIDS};
 
 /// The class of an identifier, by the request that it is for.
 #[derive(Clone, Copy, Debug, PartialEq, Eq)]
@@ -26,8 +22,8 @@ impl Class {
     {
         match self {
             Class::ScsiIo => 0,
-            Class::High => 256,
-            Class::Internal => 264,
+            Class::High => SCSI_IO_SMIDS,
+            Class::Internal => SCSI_IO_SMIDS + HIGH_PRIORITY_SMIDS,
         }
     }
 
@@ -36,9 +32,9 @@ impl Class {
         ensures { result ≡ size_of self }
     {
         match self {
-            Class::ScsiIo => 256,
-            Class::High => 8,
-            Class::Internal => 16,
+            Class::ScsiIo => SCSI_IO_SMIDS,
+            Class::High => HIGH_PRIORITY_SMIDS,
+            Class::Internal => INTERNAL_SMIDS,
         }
     }
 }

@@ -13,6 +13,7 @@ mod pool;
 mod tests;
 mod vacant_set;
 
-pub use class::{Class, Smid};
+pub use class::Class;
+pub use mpi_names::Smid;
 pub use out_of_memory::OutOfMemory;
 pub use pool::{NoIdentifier, Pool};

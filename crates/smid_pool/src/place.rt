@@ -3,8 +3,9 @@ ghost use Rattle.std.specs.Prelude.{◌≡◌, ◌≤◌, length, count_by, take
 ghost use Rattle.smid_pool.specs.Class.{before, size_of};
 ghost use Rattle.smid_pool.specs.Place.{is_vacant, place_of};
 
-use crate::class::{COUNT, Class, Smid};
+use crate::class::Class;
 use crate::out_of_memory::OutOfMemory;
+use mpi_names::{SMIDS, Smid};
 use std::alloc::Global;
 
 /// The state of an identifier, with the key of an open one's record.
@@ -20,9 +21,9 @@ pub enum Place {
 
 /// A vacant place for each identifier, or OutOfMemory.
 pub fn vacant_places(alloc: Global) -> Result<Vec<Place>, OutOfMemory>
-    ensures { IfOk result (λ places. places.items ≡ replicate 280 Place.Vacant) }
+    ensures { IfOk result (λ places. places.items ≡ replicate SMIDS Place.Vacant) }
 {
-    Ok(vec![in alloc; Place::Vacant; COUNT]?)
+    Ok(vec![in alloc; Place::Vacant; SMIDS]?)
 }
 
 /// Makes every place vacant.
@@ -44,9 +45,9 @@ pub fn place_at(places: &[Place], smid: Smid) -> Place
 
 /// How many places of a class are vacant.
 pub fn vacant_count(places: &[Place], class: Class) -> usize
-    requires { length places.now ≡ 280 }
+    requires { length places.now ≡ SMIDS }
     ensures value { result ≡ count_by is_vacant (take (size_of class) (drop (before class) places.now)) }
-    ensures bound { result ≤ 280 }
+    ensures bound { result ≤ SMIDS }
 {
     let start = class.before();
     let end = start + class.size();

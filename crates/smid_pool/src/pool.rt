@@ -3,10 +3,11 @@ ghost use Rattle.std.specs.Prelude.{◌≡◌, ◌↔◌, ◌+◌, Some, IfOk, I
 ghost use Rattle.smid_pool.specs.Class.{IsIn};
 ghost use Rattle.smid_pool.specs.Pool.{Free, Open, Parked, all_free, free_count, is_free, is_open, is_parked, is_taken, least_free, record_of, slot_of, with_slot};
 
-use crate::class::{COUNT, Class, Smid};
+use crate::class::Class;
 use crate::out_of_memory::OutOfMemory;
 use crate::place::{Place, place_at, vacant_count, vacant_places, vacate};
 use crate::vacant_set::VacantSet;
+use mpi_names::{SMIDS, Smid};
 use slab::Slab;
 use std::alloc::Global;
 use std::error::Error;
@@ -18,6 +19,10 @@ use std::marker::Model;
 pub struct NoIdentifier;
 
 impl fmt::Display for NoIdentifier {
+    ghost use Rattle.std.specs.Prelude.{Some, codes};
+
+    ghost output = { λ _. Some (codes "no identifier is free") };
+
     fn fmt<W: fmt::Write>(&self, f: &mut fmt::Formatter<W>) -> fmt::Result {
         write!(f, "no identifier is free")
     }
@@ -61,7 +66,7 @@ impl<R> Pool<R> {
         ensures { IfOk result (λ pool. pool ≡ all_free) }
     {
         let places = vacant_places(alloc)?;
-        let records = Slab::with_capacity(alloc, COUNT)?;
+        let records = Slab::with_capacity(alloc, SMIDS)?;
         Ok(Pool {
             records,
             places,
@@ -143,8 +148,8 @@ impl<R> Pool<R> {
     /// How many identifiers of the class are free.
     pub fn free_count(&self, class: Class) -> u16
         ensures value { result ≡ free_count class self.now }
-        ensures size { length self.now ≡ 280 }
-        ensures partition { count_by is_free self.now + count_by is_open self.now + count_by is_parked self.now ≡ 280 }
+        ensures size { length self.now ≡ SMIDS }
+        ensures partition { count_by is_free self.now + count_by is_open self.now + count_by is_parked self.now ≡ SMIDS }
     {
         vacant_count(&self.places, class) as u16
     }

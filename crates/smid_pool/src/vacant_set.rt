@@ -1,5 +1,6 @@
 //! Which places are vacant, a bit for each.
 ghost use Rattle.std.specs.Prelude.{◌≡◌, ◌≢◌, ◌≤◌, ◌<◌, ◌/◌, ◌%◌, ℕ, MatchOption, true, false};
+ghost use Rattle.mpi_names.specs.declared.smid.TheConstants.{SMIDS};
 ghost use Rattle.smid_pool.specs.VacantSet.{HasNone, IsFirst, has};
 
 use crate::class::Class;
@@ -19,7 +20,7 @@ pub struct VacantSet {
 impl VacantSet {
     /// All 280 places.
     pub fn full() -> VacantSet
-        ensures { (place : ℕ) → place < 280 → has result.words place ≡ true }
+        ensures { (place : ℕ) → place < SMIDS → has result.words place ≡ true }
     {
         VacantSet {
             words: [u64::MAX, u64::MAX, u64::MAX, u64::MAX, 0xff_ffff],
@@ -28,7 +29,7 @@ impl VacantSet {
 
     /// Puts a place in.
     pub fn insert(&mut self, place: usize)
-        requires { place < 280 }
+        requires { place < SMIDS }
         ensures here { has self.new.words place ≡ true }
         ensures others { (other : ℕ) → other ≢ place → has self.new.words other ≡ has self.old.words other }
     {
@@ -38,7 +39,7 @@ impl VacantSet {
 
     /// Takes a place out.
     pub fn remove(&mut self, place: usize)
-        requires { place < 280 }
+        requires { place < SMIDS }
         ensures here { has self.new.words place ≡ false }
         ensures others { (other : ℕ) → other ≢ place → has self.new.words other ≡ has self.old.words other }
     {
@@ -48,8 +49,8 @@ impl VacantSet {
 
     /// The first place of the set from `start` on.
     pub fn first_from(&self, start: usize) -> Option<usize>
-        requires { start < 280 }
-        ensures { MatchOption result ((place : ℕ) → start ≤ place → place < 280 → has self.now.words place ≡ false)
+        requires { start < SMIDS }
+        ensures { MatchOption result ((place : ℕ) → start ≤ place → place < SMIDS → has self.now.words place ≡ false)
             (λ first. (start ≤ first) × (has self.now.words first ≡ true)
             × ((place : ℕ) → start ≤ place → place < first → has self.now.words place ≡ false)) }
     {

@@ -1,6 +1,6 @@
 use Rattle.std.proofs.Common.{◌∙◌, length, ap, sym, arith}
-use Rattle.event_msgs.specs.Padding.{padded}
-use Rattle.event_msgs.proofs.Parts.{padded_tail}
+use Rattle.mpi_layout.specs.Tail.{padded}
+use Rattle.mpi_layout.proofs.Tails.{padded_tail}
 use Rattle.event_msgs.proofs.event_data.write_kept.Goals as goal
 
 pub returns : goal.returns

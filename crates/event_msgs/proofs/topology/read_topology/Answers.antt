@@ -2,7 +2,7 @@ use Rattle.std.proofs.Common.{◌≡◌, ◌+◌, ◌-◌, ◌*◌, ◌≤◌, �
 use Rattle.std.specs.List.{range_with_len}
 use Rattle.std.proofs.lemmas.List.{take_rest}
 use Rattle.mpi_layout.proofs.Moves.{read_fits, read_stands}
-use Rattle.event_msgs.specs.Padding.{padded}
+use Rattle.mpi_layout.specs.Tail.{padded}
 use Rattle.event_msgs.specs.TopologyEntry.{blank, entry_at}
 use Rattle.event_msgs.specs.Topology.{topology_end, topology_layout, topology_values}
 use Rattle.event_msgs.proofs.Entries.{never_refused}

@@ -1,7 +1,8 @@
 use Rattle.std.proofs.Common.{◌≡◌, ◌-◌, ◌<◌, ◌≤◌, length, take, drop, Ok, ap, subst, arith}
 use Rattle.std.proofs.lemmas.List.{length-take}
 use Rattle.mpi_layout.proofs.Moves.{read_fits, read_stands}
-use Rattle.scsi_msgs.specs.ScsiReply.{padded, scsi_reply_layout, scsi_reply_values}
+use Rattle.mpi_layout.specs.Tail.{padded}
+use Rattle.scsi_msgs.specs.ScsiReply.{scsi_reply_layout, scsi_reply_values}
 use Rattle.scsi_msgs.proofs.ScsiReplyTail.{ScsiReplyStands-same, msg_length-range, refused_short, stands_fit, too_short, with_tail}
 use Rattle.scsi_msgs.proofs.scsi_reply.decode_scsi_reply.Goals as goal
 

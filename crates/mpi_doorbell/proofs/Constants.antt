@@ -1,0 +1,45 @@
+-- The values of the registers and their bits in mpi2.h.
+use Rattle.std.proofs.Common.{◌≡◌, refl}
+use Rattle.mpi_doorbell.specs.declared.registers.TheConstants.{DOORBELL, WRITE_SEQUENCE, HOST_DIAGNOSTIC, HOST_INTERRUPT_STATUS, HOST_INTERRUPT_MASK, REPLY_POST_HOST_INDEX, IOC_STATE_MASK, IOC_STATE_RESET, IOC_STATE_READY, IOC_STATE_OPERATIONAL, IOC_STATE_FAULT, DOORBELL_USED, DOORBELL_WHO_INIT_SHIFT, DOORBELL_DATA_MASK, DOORBELL_FUNCTION_SHIFT, DOORBELL_ADD_DWORDS_SHIFT, FUNCTION_MESSAGE_UNIT_RESET, FUNCTION_HANDSHAKE, FUNCTION_IOC_INIT, WRITE_SEQUENCE_KEY_MASK, DIAG_WRITE_ENABLE, DIAG_RESET_HISTORY, DIAG_RESET_ADAPTER, DIAG_HOLD_IOC_RESET, SYS2IOC_DB_STATUS, IOC2SYS_DB_STATUS}
+
+registers :
+    (DOORBELL ≡ 0x00)
+    × (WRITE_SEQUENCE ≡ 0x04)
+    × (HOST_DIAGNOSTIC ≡ 0x08)
+    × (HOST_INTERRUPT_STATUS ≡ 0x30)
+    × (HOST_INTERRUPT_MASK ≡ 0x34)
+    × (REPLY_POST_HOST_INDEX ≡ 0x6C)
+registers = (refl, refl, refl, refl, refl, refl)
+
+states :
+    (IOC_STATE_MASK ≡ 0xF000_0000)
+    × (IOC_STATE_RESET ≡ 0x0000_0000)
+    × (IOC_STATE_READY ≡ 0x1000_0000)
+    × (IOC_STATE_OPERATIONAL ≡ 0x2000_0000)
+    × (IOC_STATE_FAULT ≡ 0x4000_0000)
+states = (refl, refl, refl, refl, refl)
+
+doorbell_fields :
+    (DOORBELL_USED ≡ 0x0800_0000)
+    × (DOORBELL_WHO_INIT_SHIFT ≡ 24)
+    × (DOORBELL_DATA_MASK ≡ 0x0000_FFFF)
+    × (DOORBELL_FUNCTION_SHIFT ≡ 24)
+    × (DOORBELL_ADD_DWORDS_SHIFT ≡ 16)
+doorbell_fields = (refl, refl, refl, refl, refl)
+
+functions :
+    (FUNCTION_MESSAGE_UNIT_RESET ≡ 0x40)
+    × (FUNCTION_HANDSHAKE ≡ 0x42)
+    × (FUNCTION_IOC_INIT ≡ 0x02)
+functions = (refl, refl, refl)
+
+diagnostic_bits :
+    (WRITE_SEQUENCE_KEY_MASK ≡ 0x0000_000F)
+    × (DIAG_WRITE_ENABLE ≡ 0x80)
+    × (DIAG_RESET_HISTORY ≡ 0x20)
+    × (DIAG_RESET_ADAPTER ≡ 0x04)
+    × (DIAG_HOLD_IOC_RESET ≡ 0x02)
+diagnostic_bits = (refl, refl, refl, refl, refl)
+
+status_bits : (SYS2IOC_DB_STATUS ≡ 0x8000_0000) × (IOC2SYS_DB_STATUS ≡ 0x0000_0001)
+status_bits = (refl, refl)

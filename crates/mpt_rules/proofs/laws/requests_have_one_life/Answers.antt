@@ -1,5 +1,0 @@
-use Rattle.mpt_trace.proofs.Lives.{have_one_life}
-use Rattle.mpt_rules.proofs.laws.requests_have_one_life.Goals as goal
-
-pub returns : goal.returns
-returns c = have_one_life
