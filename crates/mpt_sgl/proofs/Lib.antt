@@ -1,0 +1,14 @@
+pub mod ChainSteps
+pub mod Complete
+pub mod ElementBytes
+pub mod ElementRows
+pub mod FrameCounts
+pub mod FrameSteps
+pub mod ListsTold
+pub mod ReadSteps
+pub mod RowSplit
+pub mod Rows
+pub mod Shapes
+pub mod Sound
+pub mod WriteSteps
+pub mod ZeroBytes

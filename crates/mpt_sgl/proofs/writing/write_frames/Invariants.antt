@@ -1,0 +1,6 @@
+use Rattle.mpt_sgl.proofs.FrameSteps.{FramesSoFar}
+use Rattle.mpt_sgl.proofs.writing.write_frames.Given as goal
+
+-- the frames so far, with any that hold what is left, hold the pieces
+abbrev pub invariant-loop-i : goal.invariant-loop-i
+invariant-loop-i l = FramesSoFar l.to_device l.pieces l.chains l.frames.items l.i
