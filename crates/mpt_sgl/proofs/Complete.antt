@@ -83,17 +83,16 @@ chained_none segment room left address to_device front bytes sound held more beg
     let place : 12 * (room + 1) ≡ 12 * room + 12 = omega arith in
     let zero : is_zero (drop (12 * room + 12) bytes) ≡ true = ap (λ k. is_zero (drop k bytes)) (sym place) ∙ ap (λ n. is_zero (drop (12 * n) bytes)) (sym long) ∙ begins.zero in
     let none = simples_none segment 0 0x92 to_device front sound in
-    let none' = chain_none segment room left address (element_at (drop (12 * room) bytes)) more last in
-    (
+    let none' = chain_none segment room left address (element_at (drop (12 * room) bytes)) more last in (
       ap (λ es. option_or (simples_fault segment 0 to_device 0x92 es) (option_or (chain_fault segment room (element_at (drop (12 * room) bytes)) (Some address)) (unused_fault segment (drop (12 * room + 12) bytes)))) split.0
-      ∙ ap (λ o. option_or o (option_or (chain_fault segment room (element_at (drop (12 * room) bytes)) (Some address)) (unused_fault segment (drop (12 * room + 12) bytes)))) none
-      ∙ ap (λ o. option_or o (unused_fault segment (drop (12 * room + 12) bytes))) none'
-      ∙ ap (λ b. cond b None (Some (fault.Stray segment))) zero,
+          ∙ ap (λ o. option_or o (option_or (chain_fault segment room (element_at (drop (12 * room) bytes)) (Some address)) (unused_fault segment (drop (12 * room + 12) bytes)))) none
+          ∙ ap (λ o. option_or o (unused_fault segment (drop (12 * room + 12) bytes))) none'
+          ∙ ap (λ b. cond b None (Some (fault.Stray segment))) zero,
       ap (map piece_of) split.0 ∙ pieces_told 0x92 to_device front,
       ap (λ (x : Element). chain_shape x.length) last ∙ chain_shape-length left more,
     ) where
-  one_same : (x y : Element) → x ∷ [] ≡ y ∷ [] → x ≡ y
-  one_same x y e = cc
+      one_same : (x y : Element) → x ∷ [] ≡ y ∷ [] → x ≡ y
+      one_same x y e = cc
 
 -- what is said of pieces that are held
 pub record NoFault (to_device : Bool) (segment : ℕ) (shape : Shape) (pieces : List Piece) (bytes : List ℕ) (frames : List ChainFrame) : Type 0 where

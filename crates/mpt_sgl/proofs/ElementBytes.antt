@@ -37,8 +37,8 @@ pub element_fits : (layout : Layout) (a b c : ℕ) → layout ≡ element_layout
 unfolding element_layout
 element_fits layout a b c is first second third =
     subst (λ (l : Layout). IsTrue (values_fit l.rows (a ∷ b ∷ c ∷ []))) (sym is) (fits a b c first second third) where
-  fits : (a b c : ℕ) → a < 2 ^ 24 → b < 256 → c < 2 ^ 64 → IsTrue (values_fit (element_layout).rows (a ∷ b ∷ c ∷ []))
-  fits a b c first second third = grind (arith, nat_tests)
+      fits : (a b c : ℕ) → a < 2 ^ 24 → b < 256 → c < 2 ^ 64 → IsTrue (values_fit (element_layout).rows (a ∷ b ∷ c ∷ []))
+      fits a b c first second third = grind (arith, nat_tests)
 
 -- bytes that stand for an element's numbers have it at their front
 pub written_element : (layout : Layout) (e : Element) (a b : ℕ) (out : List ℕ) → layout ≡ element_layout → a ≡ e.length → b ≡ e.flags → Stands layout (a ∷ b ∷ e.address ∷ []) out → element_at out ≡ e

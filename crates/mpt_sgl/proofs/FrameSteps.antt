@@ -67,14 +67,14 @@ pub one_frame_more : (to_device : Bool) (pieces rest : List Piece) (heads : List
 one_frame_more to_device pieces rest heads frames after frame i next less address more is next_is some few many begins so_far =
     record {
       hold = λ (others : List ChainFrame) same held. (
-        let place : 9 * i + 9 ≡ 9 * (i + 1) = omega arith in
-        let step : suc i ≡ i + 1 = omega arith in
-        let left : drop 9 rest ≡ drop (9 * (i + 1)) pieces = ap (drop 9) is ∙ drop-drop 9 (9 * i) pieces ∙ ap (λ k. drop k pieces) place in
-        let here : Held to_device 9 rest frame.bytes others = held_area others to_device 9 rest frame.bytes next (next_is ∙ address_of_next heads (i + 1) others same) some few many begins (subst (λ (ps : List Piece). FramesHold to_device ps others) (sym left) held) in
-        let heads_left : addresses (frame ∷ others) ≡ drop i heads = ap (λ xs. frame.address ∷ xs) same ∙ ap (λ a. a ∷ drop (i + 1) heads) address ∙ ap (λ k. get_or heads i 0 ∷ drop k heads) (sym step) ∙ sym (drop-cons heads i 0 less) in
-        let all = so_far.hold (frame ∷ others) heads_left (subst (λ (ps : List Piece). Held to_device 9 ps frame.bytes others) is here) in
-        subst (λ (fs : List ChainFrame). FramesHold to_device pieces fs) (sym (append_assoc frames (frame ∷ []) others) ∙ ap (λ fs. fs ++ others) (sym more)) all
-      );
+          let place : 9 * i + 9 ≡ 9 * (i + 1) = omega arith in
+          let step : suc i ≡ i + 1 = omega arith in
+          let left : drop 9 rest ≡ drop (9 * (i + 1)) pieces = ap (drop 9) is ∙ drop-drop 9 (9 * i) pieces ∙ ap (λ k. drop k pieces) place in
+          let here : Held to_device 9 rest frame.bytes others = held_area others to_device 9 rest frame.bytes next (next_is ∙ address_of_next heads (i + 1) others same) some few many begins (subst (λ (ps : List Piece). FramesHold to_device ps others) (sym left) held) in
+          let heads_left : addresses (frame ∷ others) ≡ drop i heads = ap (λ xs. frame.address ∷ xs) same ∙ ap (λ a. a ∷ drop (i + 1) heads) address ∙ ap (λ k. get_or heads i 0 ∷ drop k heads) (sym step) ∙ sym (drop-cons heads i 0 less) in
+          let all = so_far.hold (frame ∷ others) heads_left (subst (λ (ps : List Piece). Held to_device 9 ps frame.bytes others) is here) in
+          subst (λ (fs : List ChainFrame). FramesHold to_device pieces fs) (sym (append_assoc frames (frame ∷ []) others) ∙ ap (λ fs. fs ++ others) (sym more)) all
+          );
       told = ap addresses more ∙ addresses-more frames frame ∙ ap (λ xs. xs ++ frame.address ∷ []) so_far.told ∙ ap (λ a. take i heads ++ a ∷ []) address ∙ sym (take_more heads i 0 less);
     }
 
@@ -131,6 +131,7 @@ pub first_few : (pieces : ℕ) (heads : List ℕ) (next : Option ℕ) → next �
 first_few pieces heads next is count none = tested (ltb pieces 3) refl count where
   past : length heads ≤ 0
   past = slice_none heads 0 (sym is ∙ none)
+
   tested : (b : Bool) → ltb pieces 3 ≡ b → length heads ≡ cond b 0 ((pieces - 3) / 9 + 1) → pieces ≤ 2
   tested true t e = grind (arith, nat_tests)
   tested false t e = let none_at_all = past in absurd (omega arith)
@@ -139,6 +140,7 @@ pub first_many : (pieces : ℕ) (heads : List ℕ) (next : Option ℕ) → next 
 first_many pieces heads next is count x some = tested (ltb pieces 3) refl count where
   within : 0 < length heads
   within = slice_some heads 0 x (sym is ∙ some)
+
   tested : (b : Bool) → ltb pieces 3 ≡ b → length heads ≡ cond b 0 ((pieces - 3) / 9 + 1) → 3 ≤ pieces
   tested true t e = let one = within in absurd (omega arith)
   tested false t e = grind (arith, nat_tests)

@@ -35,8 +35,8 @@ abbrev faults_with : (known empty : Bool) → Shape → Bool → Chained → Opt
 faults_with known empty shape to_device c =
     cond (not known) (Some (fault.Offset c.offset))
     (
-        cond empty (empty_fault (element_at c.first) c.first c.frames)
-        (option_or (chain_faults 0 shape to_device c.first c.frames) (cond (ltb 256 (length (cond empty [] (chain_pieces shape c.first c.frames)))) (Some fault.Many) None))
+    cond empty (empty_fault (element_at c.first) c.first c.frames)
+    (option_or (chain_faults 0 shape to_device c.first c.frames) (cond (ltb 256 (length (cond empty [] (chain_pieces shape c.first c.frames)))) (Some fault.Many) None))
     )
 
 abbrev is_known : ℕ → Bool
@@ -71,16 +71,16 @@ lead_is to_device p [] [] offset bytes sound is held =
     let lead = lead_at (simple_element to_device 0xd3 p) [] bytes held.2 in
     let at_zero : offset ≡ 0 = is in
     subst (λ (e : Element). LeadIs to_device 1 offset e) (sym lead) (subst (λ n. LeadIs to_device 1 n (simple_element to_device 0xd3 p)) (sym at_zero) (one to_device)) where
-  one : (d : Bool) → LeadIs d 1 0 (simple_element d 0xd3 p)
-  one true = record { known = refl; some = not_empty 0 (simple_element true 0xd3 p) (sound_length p sound); shape_is = refl; direction = refl }
-  one false = record { known = refl; some = not_empty 0 (simple_element false 0xd3 p) (sound_length p sound); shape_is = refl; direction = refl }
+      one : (d : Bool) → LeadIs d 1 0 (simple_element d 0xd3 p)
+      one true = record { known = refl; some = not_empty 0 (simple_element true 0xd3 p) (sound_length p sound); shape_is = refl; direction = refl }
+      one false = record { known = refl; some = not_empty 0 (simple_element false 0xd3 p) (sound_length p sound); shape_is = refl; direction = refl }
 lead_is to_device p (q ∷ []) [] offset bytes sound is held =
     let lead = lead_at (simple_element to_device 0x12 p) (simple_run to_device 0xd3 (q ∷ [])) bytes held.2 in
     let at_zero : offset ≡ 0 = is in
     subst (λ (e : Element). LeadIs to_device 2 offset e) (sym lead) (subst (λ n. LeadIs to_device 2 n (simple_element to_device 0x12 p)) (sym at_zero) (two to_device)) where
-  two : (d : Bool) → LeadIs d 2 0 (simple_element d 0x12 p)
-  two true = record { known = refl; some = not_empty 0 (simple_element true 0x12 p) (sound_length p sound); shape_is = refl; direction = refl }
-  two false = record { known = refl; some = not_empty 0 (simple_element false 0x12 p) (sound_length p sound); shape_is = refl; direction = refl }
+      two : (d : Bool) → LeadIs d 2 0 (simple_element d 0x12 p)
+      two true = record { known = refl; some = not_empty 0 (simple_element true 0x12 p) (sound_length p sound); shape_is = refl; direction = refl }
+      two false = record { known = refl; some = not_empty 0 (simple_element false 0x12 p) (sound_length p sound); shape_is = refl; direction = refl }
 lead_is to_device p (q ∷ r ∷ pieces) [] offset bytes sound is held = let most = held.1 in absurd (omega arith)
 lead_is to_device p pieces (frame ∷ frames) offset bytes sound is held =
     let more = held.0 in
@@ -89,9 +89,9 @@ lead_is to_device p pieces (frame ∷ frames) offset bytes sound is held =
     let lead = lead_at (simple_element to_device 0x92 p) _ bytes held.1 in
     let shape = shape_for-chained 1 (suc (length pieces)) more in
     subst (λ (e : Element). LeadIs to_device (suc (length pieces)) offset e) (sym lead) (subst (λ n. LeadIs to_device (suc (length pieces)) n (simple_element to_device 0x92 p)) (sym set) (many to_device shape)) where
-  many : (d : Bool) → shape_for 1 (suc (length pieces)) ≡ chained_shape 1 → LeadIs d (suc (length pieces)) 0x1b (simple_element d 0x92 p)
-  many true shape = record { known = refl; some = refl; shape_is = sym shape; direction = refl }
-  many false shape = record { known = refl; some = refl; shape_is = sym shape; direction = refl }
+      many : (d : Bool) → shape_for 1 (suc (length pieces)) ≡ chained_shape 1 → LeadIs d (suc (length pieces)) 0x1b (simple_element d 0x92 p)
+      many true shape = record { known = refl; some = refl; shape_is = sym shape; direction = refl }
+      many false shape = record { known = refl; some = refl; shape_is = sym shape; direction = refl }
 
 -- a list with pieces
 some_told : (to_device : Bool) (p : Piece) (pieces : List Piece) (c : Chained) → length (p ∷ pieces) ≤ 256 → list_all is_piece (p ∷ pieces) ≡ true → c.offset ≡ cond (ltb 2 (suc (length pieces))) 0x1b 0 → Held to_device 1 (p ∷ pieces) c.first c.frames
@@ -102,15 +102,14 @@ some_told to_device p pieces c few sound offset held =
     let shape : Shape = first_shape c.offset (element_at c.first) in
     let d : Bool = is_to_device (element_at c.first).flags in
     let told : pieces_told c ≡ p ∷ pieces = ap (λ e. cond e [] (chain_pieces shape c.first c.frames)) lead.some ∙ ap (λ (s : Shape). chain_pieces s c.first c.frames) lead.shape_is ∙ none.told in
-    let test : ltb 256 (suc (length pieces)) ≡ false = grind (arith, nat_tests) in
-    (
+    let test : ltb 256 (suc (length pieces)) ≡ false = grind (arith, nat_tests) in (
       ap (λ k. faults_with k (is_empty_lead c.offset (element_at c.first)) shape d c) lead.known
-      ∙ ap (λ e. faults_with true e shape d c) lead.some
-      ∙ ap (λ (s : Shape). faults_with true false s d c) lead.shape_is
-      ∙ ap (λ b. faults_with true false (shape_for 1 (suc (length pieces))) b c) lead.direction
-      ∙ ap (λ o. option_or o (cond (ltb 256 (length (chain_pieces (shape_for 1 (suc (length pieces))) c.first c.frames))) (Some fault.Many) None)) none.none
-      ∙ ap (λ (ps : List Piece). cond (ltb 256 (length ps)) (Some fault.Many) None) none.told
-      ∙ ap (λ b. cond b (Some fault.Many) None) test,
+          ∙ ap (λ e. faults_with true e shape d c) lead.some
+          ∙ ap (λ (s : Shape). faults_with true false s d c) lead.shape_is
+          ∙ ap (λ b. faults_with true false (shape_for 1 (suc (length pieces))) b c) lead.direction
+          ∙ ap (λ o. option_or o (cond (ltb 256 (length (chain_pieces (shape_for 1 (suc (length pieces))) c.first c.frames))) (Some fault.Many) None)) none.none
+          ∙ ap (λ (ps : List Piece). cond (ltb 256 (length ps)) (Some fault.Many) None) none.told
+          ∙ ap (λ b. cond b (Some fault.Many) None) test,
       lead.direction,
       told,
     )
@@ -158,23 +157,27 @@ row_of-some to_device (p ∷ pieces) heads some = refl
 first_shape-is : (offset : ℕ) (lead : Element) (left : ℕ) → is_known offset ≡ true → IsShape 1 (first_shape offset lead) × (first_shape offset lead ≡ shape_for 1 left → offset ≡ cond (ltb 2 left) 0x1b 0)
 first_shape-is offset lead left known =
     elim (eqb_tells offset 0x1b) [
-      inl t ↦ subst (λ b. IsShape 1 (cond b (chained_shape 1) (ending lead)) × (cond b (chained_shape 1) (ending lead) ≡ shape_for 1 left → offset ≡ cond (ltb 2 left) 0x1b 0)) (sym t.0) (chains, λ e. chained_offset (ltb 2 left) t.1 e)
+      | inl t ↦ subst (λ b. IsShape 1 (cond b (chained_shape 1) (ending lead)) × (cond b (chained_shape 1) (ending lead) ≡ shape_for 1 left → offset ≡ cond (ltb 2 left) 0x1b 0)) (sym t.0) (chains, λ e. chained_offset (ltb 2 left) t.1 e)
       | inr t ↦ subst (λ b. IsShape 1 (cond b (chained_shape 1) (ending lead)) × (cond b (chained_shape 1) (ending lead) ≡ shape_for 1 left → offset ≡ cond (ltb 2 left) 0x1b 0)) (sym t.0) (ending_shape (eqb lead.flags 0xd3 || eqb lead.flags 0xd7), λ e. ended_offset (ltb 2 left) (zero_offset (rw t.0 at known)) (eqb lead.flags 0xd3 || eqb lead.flags 0xd7) e)
     ] where
-  ending : Element → Shape
-  ending lead = cond (eqb lead.flags 0xd3 || eqb lead.flags 0xd7) (last_shape 1) (last_shape 2)
-  ending_shape : (b : Bool) → IsShape 1 (cond b (last_shape 1) (last_shape 2))
-  ending_shape true = ends 1 (omega arith) (omega arith)
-  ending_shape false = ends 2 (omega arith) (omega arith)
-  chained_offset : (b : Bool) → offset ≡ 0x1b → chained_shape 1 ≡ cond b (chained_shape 1) (last_shape left) → offset ≡ cond b 0x1b 0
-  chained_offset true is e = is
-  chained_offset false is e = let wrong : true ≡ false = ap (λ (s : Shape). s.chained) e in cc
-  zero_offset : (eqb offset 0 || false) ≡ true → offset ≡ 0
-  zero_offset e = elim (eqb_tells offset 0) [ inl t ↦ t.1 | inr t ↦ (let wrong = rw t.0 at e in cc) ]
-  ended_offset : (b : Bool) → offset ≡ 0 → (d : Bool) → cond d (last_shape 1) (last_shape 2) ≡ cond b (chained_shape 1) (last_shape left) → offset ≡ cond b 0x1b 0
-  ended_offset false is d e = is
-  ended_offset true is true e = let wrong : false ≡ true = ap (λ (s : Shape). s.chained) e in cc
-  ended_offset true is false e = let wrong : false ≡ true = ap (λ (s : Shape). s.chained) e in cc
+      ending : Element → Shape
+      ending lead = cond (eqb lead.flags 0xd3 || eqb lead.flags 0xd7) (last_shape 1) (last_shape 2)
+
+      ending_shape : (b : Bool) → IsShape 1 (cond b (last_shape 1) (last_shape 2))
+      ending_shape true = ends 1 (omega arith) (omega arith)
+      ending_shape false = ends 2 (omega arith) (omega arith)
+
+      chained_offset : (b : Bool) → offset ≡ 0x1b → chained_shape 1 ≡ cond b (chained_shape 1) (last_shape left) → offset ≡ cond b 0x1b 0
+      chained_offset true is e = is
+      chained_offset false is e = let wrong : true ≡ false = ap (λ (s : Shape). s.chained) e in cc
+
+      zero_offset : (eqb offset 0 || false) ≡ true → offset ≡ 0
+      zero_offset e = elim (eqb_tells offset 0) [ inl t ↦ t.1 | inr t ↦ (let wrong = rw t.0 at e in cc) ]
+
+      ended_offset : (b : Bool) → offset ≡ 0 → (d : Bool) → cond d (last_shape 1) (last_shape 2) ≡ cond b (chained_shape 1) (last_shape left) → offset ≡ cond b 0x1b 0
+      ended_offset false is d e = is
+      ended_offset true is true e = let wrong : false ≡ true = ap (λ (s : Shape). s.chained) e in cc
+      ended_offset true is false e = let wrong : false ≡ true = ap (λ (s : Shape). s.chained) e in cc
 
 -- the empty list's lead
 lead_empty : (offset : ℕ) (lead : Element) → is_empty_lead offset lead ≡ true → (offset ≡ 0) × (lead.flags ≡ 0xd3) × (lead.length ≡ 0)
@@ -187,19 +190,19 @@ lead_empty offset lead e =
 sound_empty : (lead : Element) (first : List ℕ) (frames : List ChainFrame) → empty_fault lead first frames ≡ None → (lead.address ≡ 0xffff_ffff_ffff_ffff) × (is_zero (drop 12 first) ≡ true) × (frames ≡ [])
 sound_empty lead first frames none =
     elim (eqb_tells lead.address 0xffff_ffff_ffff_ffff) [
-      inl t ↦ (
-        let rest = rw t.0 at none in
-        let both = or_none (unused_fault 0 (drop 12 first)) (cond (eqb (length frames) 0) None (Some (fault.Extra 0 (length frames)))) rest in
-        (t.1, sound_unused 0 (drop 12 first) both.0, no_extra frames both.1)
-      )
+      | inl t ↦ (
+          let rest = rw t.0 at none in
+          let both = or_none (unused_fault 0 (drop 12 first)) (cond (eqb (length frames) 0) None (Some (fault.Extra 0 (length frames)))) rest in
+          (t.1, sound_unused 0 (drop 12 first) both.0, no_extra frames both.1)
+          )
       | inr t ↦ (let wrong = rw t.0 at none in cc)
     ] where
-  no_extra : (frames : List ChainFrame) → cond (eqb (length frames) 0) None (Some (fault.Extra 0 (length frames))) ≡ None → frames ≡ []
-  no_extra [] e = refl
-  no_extra (frame ∷ frames) e =
-      let test : eqb (suc (length frames)) 0 ≡ false = grind (arith, nat_tests) in
-      let wrong = rw test at e in
-      cc
+      no_extra : (frames : List ChainFrame) → cond (eqb (length frames) 0) None (Some (fault.Extra 0 (length frames))) ≡ None → frames ≡ []
+      no_extra [] e = refl
+      no_extra (frame ∷ frames) e =
+          let test : eqb (suc (length frames)) 0 ≡ false = grind (arith, nat_tests) in
+          let wrong = rw test at e in
+          cc
 
 lead_same : (e : Element) → e.length ≡ 0 → e.flags ≡ 0xd3 → e.address ≡ 0xffff_ffff_ffff_ffff → e ≡ empty_element
 lead_same e a b d = rw (← a, ← b, ← d) refl
@@ -286,8 +289,7 @@ first_of_empty c lead is known empty =
     let d : Bool = is_to_device (element_at c.first).flags in
     let flags = (lead_empty c.offset lead empty).1 in
     let inward : is_to_device (element_at c.first).flags ≡ false = ap (λ (e : Element). is_to_device e.flags) (sym is) ∙ ap is_to_device flags in
-    let none : pieces_told c ≡ [] = ap (λ b. cond b [] (chain_pieces shape c.first c.frames)) empty' in
-    (
+    let none : pieces_told c ≡ [] = ap (λ b. cond b [] (chain_pieces shape c.first c.frames)) empty' in (
       ap (λ k. faults_with k (is_empty_lead c.offset (element_at c.first)) shape d c) known ∙ ap (λ e. faults_with true e shape d c) empty' ∙ ap (λ (e : Element). empty_fault e c.first c.frames) (sym is),
       ap (λ b. record { to_device = b; pieces = pieces_told c }) inward ∙ ap (λ ps. record { to_device = false; pieces = ps }) none,
     )
@@ -299,12 +301,11 @@ first_of_some c lead shape to_device is known some shape_is direction =
     let some' : is_empty_lead c.offset (element_at c.first) ≡ false = ap (is_empty_lead c.offset) (sym is) ∙ some in
     let shape' : first_shape c.offset (element_at c.first) ≡ shape = ap (first_shape c.offset) (sym is) ∙ sym shape_is in
     let direction' : is_to_device (element_at c.first).flags ≡ to_device = ap (λ (e : Element). is_to_device e.flags) (sym is) ∙ sym direction in
-    let told : pieces_told c ≡ chain_pieces shape c.first c.frames = ap (λ b. cond b [] (chain_pieces (first_shape c.offset (element_at c.first)) c.first c.frames)) some' ∙ ap (λ (s : Shape). chain_pieces s c.first c.frames) shape' in
-    (
+    let told : pieces_told c ≡ chain_pieces shape c.first c.frames = ap (λ b. cond b [] (chain_pieces (first_shape c.offset (element_at c.first)) c.first c.frames)) some' ∙ ap (λ (s : Shape). chain_pieces s c.first c.frames) shape' in (
       ap (λ k. faults_with k (is_empty_lead c.offset (element_at c.first)) (first_shape c.offset (element_at c.first)) (is_to_device (element_at c.first).flags) c) known
-      ∙ ap (λ e. faults_with true e (first_shape c.offset (element_at c.first)) (is_to_device (element_at c.first).flags) c) some'
-      ∙ ap (λ (s : Shape). faults_with true false s (is_to_device (element_at c.first).flags) c) shape'
-      ∙ ap (λ b. faults_with true false shape b c) direction',
+          ∙ ap (λ e. faults_with true e (first_shape c.offset (element_at c.first)) (is_to_device (element_at c.first).flags) c) some'
+          ∙ ap (λ (s : Shape). faults_with true false s (is_to_device (element_at c.first).flags) c) shape'
+          ∙ ap (λ b. faults_with true false shape b c) direction',
       ap (λ b. record { to_device = b; pieces = pieces_told c }) direction' ∙ ap (λ ps. record { to_device = to_device; pieces = ps }) told,
     )
 

@@ -30,8 +30,7 @@ begins_row elements room bytes few begins =
     let u : ℕ = room - n in
     let sum : n + u ≡ room = omega arith in
     let place : 12 * n + 12 * u ≡ 12 * room = omega arith in
-    let rest = zero_elements u (drop (12 * n) bytes) begins.zero in
-    (
+    let rest = zero_elements u (drop (12 * n) bytes) begins.zero in (
       ap (λ k. elements_in k bytes) (sym sum) ∙ elements_in-add n u bytes ∙ ap (λ es. es ++ elements_in u (drop (12 * n) bytes)) begins.first ∙ ap (λ es. elements ++ es) rest,
       ap (λ k. is_zero (drop k bytes)) (sym place) ∙ zero_behind (12 * n) (12 * u) bytes begins.zero,
     )
@@ -105,8 +104,7 @@ row_held (frame ∷ frames) number room j to_device pieces bytes place least mos
     let clear = and_true (is_zero (drop (12 * (room + 1)) bytes)) (is_clear_from 9 frame.bytes frames) from.clear in
     let left : length (drop room pieces) ≡ length pieces - room = length-drop room pieces in
     let fit' : FramesFit 9 (length (drop room pieces)) frames = subst (λ n. FramesFit 9 n frames) (sym left) fit.1 in
-    let ih = row_held frames (9 * j + 1) 9 (suc j) to_device (drop room pieces) frame.bytes (omega arith) (omega arith) (omega arith) fit' (record { unused = from.unused; row = split.1; clear = clear.1 }) in
-    (
+    let ih = row_held frames (9 * j + 1) 9 (suc j) to_device (drop room pieces) frame.bytes (omega arith) (omega arith) (omega arith) fit' (record { unused = from.unused; row = split.1; clear = clear.1 }) in (
       fit.0,
       record { first = ap (λ n. elements_in n bytes) long ∙ split.0; zero = ap (λ n. is_zero (drop (12 * n) bytes)) long ∙ clear.0 },
       ih,

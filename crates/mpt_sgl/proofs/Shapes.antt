@@ -37,26 +37,27 @@ pub data IsTold : ℕ → Shape → Type 0 where
 pub chain_shape-tells : (length : ℕ) (shape : Shape) → chain_shape length ≡ Some shape → IsTold length shape
 chain_shape-tells length shape e =
     elim (eqb_tells length 1769592) [
-      inl t ↦ told length shape t.1 (rw t.0 at e)
+      | inl t ↦ told length shape t.1 (rw t.0 at e)
       | inr t ↦ others length shape (rw t.0 at e)
     ] where
-  told : (length : ℕ) (shape : Shape) → length ≡ 1769592 → Some (chained_shape 9) ≡ Some shape → IsTold length shape
-  told length shape is e =
-      let same : chained_shape 9 ≡ shape = cc in
-      subst (λ n. IsTold n shape) (sym is) (subst (λ (s : Shape). IsTold 1769592 s) same tells_chained)
-  others : (length : ℕ) (shape : Shape) → cond (ltb length 24) None (cond (ltb 120 length) None (cond (eqb (length % 12) 0) (Some (last_shape (length / 12))) None)) ≡ Some shape → IsTold length shape
-  others length shape e = tested (ltb length 24) (ltb 120 length) (eqb (length % 12) 0) refl refl refl e where
-    tested : (a b d : Bool) → ltb length 24 ≡ a → ltb 120 length ≡ b → eqb (length % 12) 0 ≡ d → cond a None (cond b None (cond d (Some (last_shape (length / 12))) None)) ≡ Some shape → IsTold length shape
-    tested true b d p q r e = cc
-    tested false true d p q r e = cc
-    tested false false false p q r e = cc
-    tested false false true p q r e =
-        let same : last_shape (length / 12) ≡ shape = cc in
-        let least : 24 ≤ length = grind (arith, nat_tests) in
-        let most : length ≤ 120 = grind (arith, nat_tests) in
-        let whole : length % 12 ≡ 0 = grind (arith, nat_tests) in
-        let product : 12 * (length / 12) ≡ length = omega arith in
-        subst (λ n. IsTold n shape) product (subst (λ (s : Shape). IsTold (12 * (length / 12)) s) same (tells_last (length / 12) (omega arith) (omega arith)))
+      told : (length : ℕ) (shape : Shape) → length ≡ 1769592 → Some (chained_shape 9) ≡ Some shape → IsTold length shape
+      told length shape is e =
+          let same : chained_shape 9 ≡ shape = cc in
+          subst (λ n. IsTold n shape) (sym is) (subst (λ (s : Shape). IsTold 1769592 s) same tells_chained)
+
+      others : (length : ℕ) (shape : Shape) → cond (ltb length 24) None (cond (ltb 120 length) None (cond (eqb (length % 12) 0) (Some (last_shape (length / 12))) None)) ≡ Some shape → IsTold length shape
+      others length shape e = tested (ltb length 24) (ltb 120 length) (eqb (length % 12) 0) refl refl refl e where
+        tested : (a b d : Bool) → ltb length 24 ≡ a → ltb 120 length ≡ b → eqb (length % 12) 0 ≡ d → cond a None (cond b None (cond d (Some (last_shape (length / 12))) None)) ≡ Some shape → IsTold length shape
+        tested true b d p q r e = cc
+        tested false true d p q r e = cc
+        tested false false false p q r e = cc
+        tested false false true p q r e =
+            let same : last_shape (length / 12) ≡ shape = cc in
+            let least : 24 ≤ length = grind (arith, nat_tests) in
+            let most : length ≤ 120 = grind (arith, nat_tests) in
+            let whole : length % 12 ≡ 0 = grind (arith, nat_tests) in
+            let product : 12 * (length / 12) ≡ length = omega arith in
+            subst (λ n. IsTold n shape) product (subst (λ (s : Shape). IsTold (12 * (length / 12)) s) same (tells_last (length / 12) (omega arith) (omega arith)))
 
 pub IsTold-shape : (length : ℕ) (shape : Shape) → IsTold length shape → IsShape 9 shape
 IsTold-shape _ _ tells_chained = chains

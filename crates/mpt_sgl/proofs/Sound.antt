@@ -54,9 +54,9 @@ sound_chain segment place e None none = absurd (elim (eqb_tells e.flags 0x32) [ 
   missing false e = cc
 sound_chain segment place e (Some address) none =
     elim (eqb_tells e.flags 0x32) [ inl t ↦ led t.1 (is_none (chain_shape e.length)) (rw t.0 at none) | inr t ↦ (let wrong = rw t.0 at none in cc) ] where
-  led : e.flags ≡ 0x32 → (b : Bool) → cond b (Some (fault.Length segment place)) (cond (eqb e.address address) None (Some (fault.Address segment place))) ≡ None → SoundChain e (Some address)
-  led flags true none = cc
-  led flags false none = elim (eqb_tells e.address address) [ inl t ↦ record { address = address; frame = refl; flags = flags; leads = t.1 } | inr t ↦ (let wrong = rw t.0 at none in cc) ]
+      led : e.flags ≡ 0x32 → (b : Bool) → cond b (Some (fault.Length segment place)) (cond (eqb e.address address) None (Some (fault.Address segment place))) ≡ None → SoundChain e (Some address)
+      led flags true none = cc
+      led flags false none = elim (eqb_tells e.address address) [ inl t ↦ record { address = address; frame = refl; flags = flags; leads = t.1 } | inr t ↦ (let wrong = rw t.0 at none in cc) ]
 
 pub sound_unused : (segment : ℕ) (bytes : List ℕ) → unused_fault segment bytes ≡ None → is_zero bytes ≡ true
 sound_unused segment bytes none = tested (is_zero bytes) none where
@@ -96,10 +96,11 @@ sound_chained segment room address left to_device bytes next is none told =
     let place : 12 * (room + 1) ≡ 12 * room + 12 = omega arith in
     subst (λ (xs : List Element). Begins xs bytes) (ap (λ xs. xs ++ e ∷ []) run ∙ ap (λ x. simple_run to_device 0x92 (map piece_of es) ++ x ∷ []) last)
     (record { first = ap (λ n. elements_in n bytes) long ∙ all; zero = ap (λ n. is_zero (drop (12 * n) bytes)) long ∙ ap (λ k. is_zero (drop k bytes)) place ∙ zero }) where
-  some_same : (a b : ℕ) → Some a ≡ Some b → a ≡ b
-  some_same a b e = cc
-  chain_is : (e : Element) (left address : ℕ) → e.length ≡ chain_length left → e.flags ≡ 0x32 → e.address ≡ address → e ≡ chain_element left address
-  chain_is e left address a b d = rw (← a, ← b, ← d) refl
+      some_same : (a b : ℕ) → Some a ≡ Some b → a ≡ b
+      some_same a b e = cc
+
+      chain_is : (e : Element) (left address : ℕ) → e.length ≡ chain_length left → e.flags ≡ 0x32 → e.address ≡ address → e ≡ chain_element left address
+      chain_is e left address a b d = rw (← a, ← b, ← d) refl
 
 -- the pieces of an area and those behind it
 pub pieces_split : (room : ℕ) (front rest : List Piece) → length front ≡ room → (take room (front ++ rest) ≡ front) × (drop room (front ++ rest) ≡ rest) × (length (front ++ rest) ≡ room + length rest)
@@ -141,26 +142,26 @@ sound_from (frame ∷ frames) segment room _ to_device bytes chains none =
     let e : Element = element_at (drop (12 * room) bytes) in
     let both = or_none (segment_fault segment (chained_shape room) to_device bytes (Some frame.address)) (option_map_or (λ (next : Shape). chain_faults (suc segment) next to_device frame.bytes frames) (chain_shape e.length) (Some (fault.Extra segment (segment + suc (length frames))))) none in
     told segment room to_device bytes frame frames both.0 (λ (shape : Shape) is rest. sound_from frames (suc segment) 9 shape to_device frame.bytes is rest) (chain_shape e.length) refl both.1 where
-  told : (segment room : ℕ) (to_device : Bool) (bytes : List ℕ) (frame : ChainFrame) (frames : List ChainFrame) → segment_fault segment (chained_shape room) to_device bytes (Some frame.address) ≡ None
-      → ((shape : Shape) → IsShape 9 shape → chain_faults (suc segment) shape to_device frame.bytes frames ≡ None → SoundFrom to_device 9 shape (chain_pieces shape frame.bytes frames) frame.bytes frames)
-      → (next : Option Shape) → chain_shape (element_at (drop (12 * room) bytes)).length ≡ next → option_map_or (λ (next : Shape). chain_faults (suc segment) next to_device frame.bytes frames) next (Some (fault.Extra segment (segment + suc (length frames)))) ≡ None
-      → SoundFrom to_device room (chained_shape room) (map piece_of (elements_in room bytes) ++ option_map_or (λ (next : Shape). chain_pieces next frame.bytes frames) next []) bytes (frame ∷ frames)
-  told segment room to_device bytes frame frames here ih None is rest = cc
-  told segment room to_device bytes frame frames here ih (Some shape) is rest =
-      let tells = chain_shape-tells (element_at (drop (12 * room) bytes)).length shape is in
-      let behind = ih shape (IsTold-shape _ shape tells) rest in
-      let front : List Piece = map piece_of (elements_in room bytes) in
-      let others : List Piece = chain_pieces shape frame.bytes frames in
-      let long : length front ≡ room = length-map (elements_in room bytes) piece_of ∙ length-elements_in room bytes in
-      let split = pieces_split room front others long in
-      let led = IsTold-length _ (length others) shape tells behind.shape_is in
-      let left : length (front ++ others) - room ≡ length others = omega (arith, split.2) in
-      let begins = sound_chained segment room frame.address (length others) to_device bytes (Some frame.address) refl here led.0 in
-      record {
-        held = (
-          omega (arith, split.2, led.1),
-          subst (λ (xs : List Element). Begins xs bytes) (ap (λ ps. simple_run to_device 0x92 ps ++ chain_element (length others) frame.address ∷ []) (sym split.0) ∙ ap (λ n. simple_run to_device 0x92 (take room (front ++ others)) ++ chain_element n frame.address ∷ []) (sym left)) begins,
-          subst (λ (ps : List Piece). Held to_device 9 ps frame.bytes frames) (sym split.1) behind.held,
-        );
-        shape_is = sym (shape_for-chained room (length (front ++ others)) (omega (arith, split.2, led.1)));
-      }
+      told : (segment room : ℕ) (to_device : Bool) (bytes : List ℕ) (frame : ChainFrame) (frames : List ChainFrame) → segment_fault segment (chained_shape room) to_device bytes (Some frame.address) ≡ None
+          → ((shape : Shape) → IsShape 9 shape → chain_faults (suc segment) shape to_device frame.bytes frames ≡ None → SoundFrom to_device 9 shape (chain_pieces shape frame.bytes frames) frame.bytes frames)
+          → (next : Option Shape) → chain_shape (element_at (drop (12 * room) bytes)).length ≡ next → option_map_or (λ (next : Shape). chain_faults (suc segment) next to_device frame.bytes frames) next (Some (fault.Extra segment (segment + suc (length frames)))) ≡ None
+          → SoundFrom to_device room (chained_shape room) (map piece_of (elements_in room bytes) ++ option_map_or (λ (next : Shape). chain_pieces next frame.bytes frames) next []) bytes (frame ∷ frames)
+      told segment room to_device bytes frame frames here ih None is rest = cc
+      told segment room to_device bytes frame frames here ih (Some shape) is rest =
+          let tells = chain_shape-tells (element_at (drop (12 * room) bytes)).length shape is in
+          let behind = ih shape (IsTold-shape _ shape tells) rest in
+          let front : List Piece = map piece_of (elements_in room bytes) in
+          let others : List Piece = chain_pieces shape frame.bytes frames in
+          let long : length front ≡ room = length-map (elements_in room bytes) piece_of ∙ length-elements_in room bytes in
+          let split = pieces_split room front others long in
+          let led = IsTold-length _ (length others) shape tells behind.shape_is in
+          let left : length (front ++ others) - room ≡ length others = omega (arith, split.2) in
+          let begins = sound_chained segment room frame.address (length others) to_device bytes (Some frame.address) refl here led.0 in
+          record {
+            held = (
+              omega (arith, split.2, led.1),
+              subst (λ (xs : List Element). Begins xs bytes) (ap (λ ps. simple_run to_device 0x92 ps ++ chain_element (length others) frame.address ∷ []) (sym split.0) ∙ ap (λ n. simple_run to_device 0x92 (take room (front ++ others)) ++ chain_element n frame.address ∷ []) (sym left)) begins,
+              subst (λ (ps : List Piece). Held to_device 9 ps frame.bytes frames) (sym split.1) behind.held,
+            );
+            shape_is = sym (shape_for-chained room (length (front ++ others)) (omega (arith, split.2, led.1)));
+          }

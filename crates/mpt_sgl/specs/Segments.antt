@@ -31,9 +31,9 @@ chain_fault segment element e next =
     if not (e.flags == 0x32) then Some (fault.Flags segment element)
     else if is_none (chain_shape e.length) then Some (fault.Length segment element)
     else leads_to next where
-  leads_to : Option ℕ → Option SglFault
-  leads_to None = Some (fault.Missing segment)
-  leads_to (Some address) = if e.address == address then None else Some (fault.Address segment element)
+      leads_to : Option ℕ → Option SglFault
+      leads_to None = Some (fault.Missing segment)
+      leads_to (Some address) = if e.address == address then None else Some (fault.Address segment element)
 
 -- the bytes behind a segment's elements
 abbrev pub unused_fault : ℕ → List ℕ → Option SglFault
@@ -48,8 +48,8 @@ unfoldable pub segment_fault : ℕ → Shape → Bool → List ℕ → Option �
 segment_fault segment shape to_device bytes next =
     option_or (simples_fault segment 0 to_device (if shape.chained then 0x92 else 0xd3) (elements_in shape.simple bytes))
     (
-        if shape.chained then option_or (chain_fault segment shape.simple (element_at (drop (12 * shape.simple) bytes)) next) (unused_fault segment (drop (12 * shape.simple + 12) bytes))
-        else unused_fault segment (drop (12 * shape.simple) bytes)
+    if shape.chained then option_or (chain_fault segment shape.simple (element_at (drop (12 * shape.simple) bytes)) next) (unused_fault segment (drop (12 * shape.simple + 12) bytes))
+    else unused_fault segment (drop (12 * shape.simple) bytes)
     )
 
 -- the shape of the next segment, which the chain element tells

@@ -15,8 +15,11 @@ use crate::list::Piece;
 // MPI2_SGE_FLAGS_*: a simple element with 64-bit addresses that is none of the following; the last
 // one before a chain element; the last of all.
 const SIMPLE: u8 = 0x12;
+
 const LAST_OF_AREA: u8 = 0x92;
+
 const LAST: u8 = 0xd3;
+
 const CHAIN: u8 = 0x32;
 
 /// Writes the elements of the pieces into an area with this much room for pieces before a chain
@@ -87,7 +90,14 @@ pub(crate) fn read_area(
 {
     let end = ELEMENT_BYTES * shape.simple as usize;
     if shape.chained {
-        read_simple(pieces, segment, shape.simple, to_device, LAST_OF_AREA, bytes)?;
+        read_simple(
+            pieces,
+            segment,
+            shape.simple,
+            to_device,
+            LAST_OF_AREA,
+            bytes,
+        )?;
         let following = read_chain(segment, shape.simple, &bytes[end..], next)?;
         check_unused(segment, &bytes[end + ELEMENT_BYTES..])?;
         Ok(Some(following))
@@ -150,12 +160,7 @@ fn due_flags(to_device: bool, is_last: bool, last: u8) -> u8
 }
 
 // What the frame has that the chain element at the front of the bytes leads to.
-fn read_chain(
-    segment: u32,
-    place: u8,
-    bytes: &[u8],
-    next: Option<u64>,
-) -> Result<Shape, SglFault>
+fn read_chain(segment: u32, place: u8, bytes: &[u8], next: Option<u64>) -> Result<Shape, SglFault>
     requires { 12 ≤ length bytes.now }
     ensures read { MatchResult result
         (λ shape. (chain_fault segment place (element_at bytes.now) next ≡ None) × (chain_shape (element_at bytes.now).length ≡ Some shape))

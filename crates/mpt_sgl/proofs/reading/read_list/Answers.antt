@@ -35,11 +35,11 @@ few_enough count read is few =
 
 pub returns-in_err-check_empty-clause-only : goal.returns-in_err-check_empty-clause-only
 returns-in_err-check_empty-clause-only c = λ list spells. (
-  let p = err_from_is_err_and c.from_residual-in_err-check_empty.result c.from_residual-in_err-check_empty.ensures.1 in
-  let all = bytes_of c.args.offset c.args.first.now c.args.frames.now in
-  let first = first_of_empty all c.read-lead.result c.read-lead.ensures.element c.in_ok-shape.ensures.0 (sym c.is_empty_lead.ensures ∙ c.if-is_empty_lead.true) in
-  rw (p.1, p.2) (spells_none all _ (inr (first.0 ∙ c.in_err-check_empty.ensures)) list spells)
-)
+    let p = err_from_is_err_and c.from_residual-in_err-check_empty.result c.from_residual-in_err-check_empty.ensures.1 in
+    let all = bytes_of c.args.offset c.args.first.now c.args.frames.now in
+    let first = first_of_empty all c.read-lead.result c.read-lead.ensures.element c.in_ok-shape.ensures.0 (sym c.is_empty_lead.ensures ∙ c.if-is_empty_lead.true) in
+    rw (p.1, p.2) (spells_none all _ (inr (first.0 ∙ c.in_err-check_empty.ensures)) list spells)
+    )
 
 pub returns-then-is_empty_lead-clause-read : goal.returns-then-is_empty_lead-clause-read
 returns-then-is_empty_lead-clause-read c =
@@ -57,11 +57,11 @@ returns-then-is_empty_lead-clause-only c =
 
 pub returns-in_err-pieces-clause-only : goal.returns-in_err-pieces-clause-only
 returns-in_err-pieces-clause-only c = λ list spells. (
-  let p = err_from_is_err_and c.from_residual-in_err-pieces.result c.from_residual-in_err-pieces.ensures.1 in
-  let all = bytes_of c.args.offset c.args.first.now c.args.frames.now in
-  let first = first_of_some all c.read-lead.result c.in_ok-shape.shape c.is_to_device-to_device.result c.read-lead.ensures.element c.in_ok-shape.ensures.0 (sym c.is_empty_lead.ensures ∙ c.if-is_empty_lead.false) c.in_ok-shape.ensures.1 c.is_to_device-to_device.ensures in
-  rw (p.1, p.2) (spells_none all _ (fault_moves _ (λ e. first.0 ∙ ap (λ o. option_or o (last_cause (length (chain_pieces c.in_ok-shape.shape c.args.first.now c.args.frames.now)))) e) c.in_err-pieces.ensures.read) list spells)
-)
+    let p = err_from_is_err_and c.from_residual-in_err-pieces.result c.from_residual-in_err-pieces.ensures.1 in
+    let all = bytes_of c.args.offset c.args.first.now c.args.frames.now in
+    let first = first_of_some all c.read-lead.result c.in_ok-shape.shape c.is_to_device-to_device.result c.read-lead.ensures.element c.in_ok-shape.ensures.0 (sym c.is_empty_lead.ensures ∙ c.if-is_empty_lead.false) c.in_ok-shape.ensures.1 c.is_to_device-to_device.ensures in
+    rw (p.1, p.2) (spells_none all _ (fault_moves _ (λ e. first.0 ∙ ap (λ o. option_or o (last_cause (length (chain_pieces c.in_ok-shape.shape c.args.first.now c.args.frames.now)))) e) c.in_err-pieces.ensures.read) list spells)
+    )
 
 pub returns-then-as_slice-gt-MOST_PIECES-clause-only : goal.returns-then-as_slice-gt-MOST_PIECES-clause-only
 returns-then-as_slice-gt-MOST_PIECES-clause-only c =

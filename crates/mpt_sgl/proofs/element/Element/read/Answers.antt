@@ -1,4 +1,3 @@
-
 use Rattle.mpt_sgl.proofs.ElementBytes.{no_fault, read_element}
 use Rattle.mpt_sgl.proofs.element.Element.read.Goals as goal
 
