@@ -1,5 +1,5 @@
 -- What reads as a command or a statement keeps its ranges.
-use Rattle.std.proofs.Common.{◌≡◌, ℕ, suc, ◌/◌, ◌%◌, ◌<◌, ◌≤◌, ◌==◌, ◌&&◌, nat_le, Bool, true, false, cond, List, [], ◌∷◌, ◌++◌, All, find, length, Some, Result, Ok, Err, refl, sym, ◌∙◌, subst, arith, bytes_eq}
+use Rattle.std.proofs.Common.{◌≡◌, ℕ, suc, ◌/◌, ◌%◌, ◌<◌, ◌≤◌, ◌==◌, ◌&&◌, nat_le, Bool, true, false, cond, List, [], ◌∷◌, ◌++◌, find, length, Some, Result, Ok, Err, refl, sym, ◌∙◌, subst, arith, bytes_eq}
 use Rattle.std.specs.List.{list_all}
 use Rattle.std.proofs.lemmas.Bool.{and_parts}
 use Rattle.std.proofs.lemmas.Grind.{common_steps}
@@ -37,8 +37,13 @@ refused cause v P e = cc
 abbrev pub Keeps : {A : Type 0} → (A → Type 0) → Keyword A → Type 0
 Keeps {A} P k = (ws : List (List ℕ)) (v : A) → k.reads ws ≡ Ok v → P v
 
+-- so it is of each keyword
+abbrev pub EachKeeps : {A : Type 0} → (A → Type 0) → List (Keyword A) → Type 0
+EachKeeps P [] = Unit {0}
+EachKeeps P (k ∷ ks) = Keeps P k × EachKeeps P ks
+
 -- what a line says by its first word is so, where it is so of each keyword
-pub read_keeps : {A : Type 0} (P : A → Type 0) (keywords : List (Keyword A)) → All (Keeps P) keywords → (ws : List (List ℕ)) (v : A) → read_by keywords ws ≡ Ok v → P v
+pub read_keeps : {A : Type 0} (P : A → Type 0) (keywords : List (Keyword A)) → EachKeeps P keywords → (ws : List (List ℕ)) (v : A) → read_by keywords ws ≡ Ok v → P v
 read_keeps P keywords all [] v e = refused Form v _ e
 read_keeps P [] all (word ∷ others) v e = refused Form v _ e
 read_keeps P (k ∷ ks) all (word ∷ others) v e = by_word (bytes_eq word k.word) e (λ f. read_keeps P ks all.1 (word ∷ others) v f)
@@ -186,7 +191,7 @@ raw_fits ws f e =
 
 pub command_fits : (ws : List (List ℕ)) (f : CommandForm) → command ws ≡ Ok f → form_fits f ≡ true
 command_fits =
-    read_keeps (λ f. form_fits f ≡ true) commands (tur_fits, (inquiry_fits, (capacity_fits, (read_fits, (write_fits, (read16_fits, (write16_fits, (raw_fits, tt))))))))
+    read_keeps (λ (f : CommandForm). form_fits f ≡ true) commands (tur_fits, (inquiry_fits, (capacity_fits, (read_fits, (write_fits, (read16_fits, (write16_fits, (raw_fits, tt))))))))
 
 -- ---- statements
 
@@ -302,7 +307,7 @@ drain_fits ws s e = fits_said (statement.Drain) s (bind_ok (nothing ws) _ s e).2
 -- what a line of a schedule says keeps its ranges
 pub schedule_line_fits : (ws : List (List ℕ)) (s : Statement) → schedule_line ws ≡ Ok s → statement_fits s ≡ true
 schedule_line_fits =
-    read_keeps (λ s. statement_fits s ≡ true) (schedule_words ++ shared_words) (
+    read_keeps (λ (s : Statement). statement_fits s ≡ true) (schedule_words ++ shared_words) (
       start_fits,
       (
         unit_fits,
