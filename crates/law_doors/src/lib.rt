@@ -1,0 +1,2 @@
+//! Laws of the doorbell.
+#![tactic(auto)]
