@@ -11,7 +11,7 @@ use Rattle.mpt_script.specs.declared.line.Line.{Line}
 use Rattle.mpt_script.specs.declared.line.Line.TheVariants as line
 use Rattle.mpt_script.specs.Allowed.{are_allowed, is_schedule, is_unrefused, line_fits, statement_of}
 use Rattle.mpt_script.specs.Declarations.{Declared, after, data_of, has_disk, nothing_declared, resets_of}
-use Rattle.mpt_script.specs.declared.stage.Stage.TheVariants.{Steps}
+use Rattle.mpt_script.specs.declared.schedule_stage.ScheduleStage.TheVariants.{Steps}
 use Rattle.mpt_script.specs.Generator.{block, disk_address, generated, head, is_plugged, kind, place, plug_line, started, turn_line, turned, turns}
 
 -- the eight disks' addresses

@@ -26,8 +26,8 @@ use Rattle.mpt_script.specs.declared.planning.Block.{Block}
 use Rattle.mpt_script.specs.declared.planning.Block.TheVariants as block
 use Rattle.mpt_script.specs.declared.planning.PlanLine.{PlanLine}
 use Rattle.mpt_script.specs.declared.planning.PlanLine.TheVariants as planned
-use Rattle.mpt_script.specs.declared.stage.Stage.{Stage}
-use Rattle.mpt_script.specs.declared.stage.Stage.TheVariants.{First, Declarations, Steps}
+use Rattle.mpt_script.specs.declared.schedule_stage.ScheduleStage.{ScheduleStage}
+use Rattle.mpt_script.specs.declared.schedule_stage.ScheduleStage.TheVariants.{First, Declarations, Steps}
 use Rattle.mpt_script.specs.Allowed.{input_fits, input_statement, is_host, line_fits, statement_fits}
 use Rattle.mpt_script.specs.Declarations.{Declared, after, is_first, is_misplaced, is_repeated, is_steps, is_too_many, is_unknown, line_of}
 use Rattle.mpt_script.specs.PlanParts.{PlanParts}
@@ -75,7 +75,7 @@ line_leads s text said l r j = λ rest parts more number.
 -- first. So each kind is read by itself, from any state before the steps.
 
 -- before the first block and the first plug
-abbrev setup : Stage → ℕ → List ℕ → List DiskSpec → List ℕ → PlanState
+abbrev setup : ScheduleStage → ℕ → List ℕ → List DiskSpec → List ℕ → PlanState
 setup stage queues addresses disks phys = record {
   block = block.Setup;
   declared = record { stage = stage; queues = queues; addresses = addresses; phys = phys; resets = 0; total = 0 };
@@ -85,8 +85,8 @@ setup stage queues addresses disks phys = record {
 }
 
 -- a text leads to a state before the steps
-record Declares (s : PlanState) (text : List ℕ) (to : Stage → PlanState) : Type 0 where
-  stage : Stage
+record Declares (s : PlanState) (text : List ℕ) (to : ScheduleStage → PlanState) : Type 0 where
+  stage : ScheduleStage
   early : is_steps stage ≡ false
   leads : Leads s text (to stage)
 
@@ -94,10 +94,10 @@ abbrev QueuesRead : ℕ → Type 0
 QueuesRead q = Declares nothing_planned (queues_text q) (λ stage. setup stage q [] [] [])
 
 abbrev DisksRead : List ℕ → List DiskSpec → Type 0
-DisksRead addresses disks = (stage : Stage) (q : ℕ) → is_steps stage ≡ false → Declares (setup stage q [] [] []) (disks_text disks) (λ now. setup now q addresses disks [])
+DisksRead addresses disks = (stage : ScheduleStage) (q : ℕ) → is_steps stage ≡ false → Declares (setup stage q [] [] []) (disks_text disks) (λ now. setup now q addresses disks [])
 
 abbrev ExpandersRead : List ℕ → Type 0
-ExpandersRead phys = (stage : Stage) (q : ℕ) (addresses : List ℕ) (disks : List DiskSpec) → is_steps stage ≡ false → Declares (setup stage q addresses disks []) (expanders_text 0 phys) (λ now. setup now q addresses disks phys)
+ExpandersRead phys = (stage : ScheduleStage) (q : ℕ) (addresses : List ℕ) (disks : List DiskSpec) → is_steps stage ≡ false → Declares (setup stage q addresses disks []) (expanders_text 0 phys) (λ now. setup now q addresses disks phys)
 
 queues_read : (q : ℕ) → (nat_le 1 q && nat_le q 8) ≡ true → QueuesRead q
 queues_read q h = by_one (nat_le q 1) refl
@@ -116,7 +116,7 @@ queues_read q h = by_one (nat_le q 1) refl
 one_more_disk : (disks : List DiskSpec) (x : DiskSpec) → disks_text disks ++ (disk_text x ++ line_end) ≡ disks_text (disks ++ x ∷ [])
 one_more_disk disks x = sym (flat_map-append (λ disk. disk_text disk ++ line_end) disks (x ∷ []) ∙ ap (λ last. disks_text disks ++ last) (append-nil (disk_text x ++ line_end)))
 
-disk_judged : (stage : Stage) (q : ℕ) (addresses : List ℕ) (disks : List DiskSpec) (x : DiskSpec) → is_steps stage ≡ false → list_any (λ a. a == x.address) addresses ≡ false → nat_le 64 (length addresses) ≡ false
+disk_judged : (stage : ScheduleStage) (q : ℕ) (addresses : List ℕ) (disks : List DiskSpec) (x : DiskSpec) → is_steps stage ≡ false → list_any (λ a. a == x.address) addresses ≡ false → nat_le 64 (length addresses) ≡ false
     → plan_judged (setup stage q addresses disks []) (plan.Line (statement.Disk x)) ≡ Ok (planned.Line (line.Disk x))
 disk_judged stage q addresses disks x early new few = rw (early, new, few) refl
 
@@ -140,7 +140,7 @@ one_more_expander n (p ∷ phys) x =
     let others = one_more_expander (n + 1) phys x in
     rw same (append_assoc (expander_text n p ++ line_end) (expanders_text (n + 1) phys) _ ∙ ap (λ rest. (expander_text n p ++ line_end) ++ rest) others)
 
-expander_judged : (stage : Stage) (q : ℕ) (addresses : List ℕ) (disks : List DiskSpec) (phys : List ℕ) (x : ℕ) → is_steps stage ≡ false → (length phys == length phys) ≡ true → nat_le 16 (length phys) ≡ false
+expander_judged : (stage : ScheduleStage) (q : ℕ) (addresses : List ℕ) (disks : List DiskSpec) (phys : List ℕ) (x : ℕ) → is_steps stage ≡ false → (length phys == length phys) ≡ true → nat_le 16 (length phys) ≡ false
     → plan_judged (setup stage q addresses disks phys) (plan.Line (statement.Expander (length phys) x)) ≡ Ok (planned.Line (line.Expander x))
 expander_judged stage q addresses disks phys x early same few = rw (early, same, few) refl
 
@@ -162,7 +162,7 @@ expander_more phys x h few before = λ stage q addresses disks early.
 
 -- the plan's declarations so far, each kind by itself
 record Early (p : PlanState) : Type 0 where
-  stage : Stage
+  stage : ScheduleStage
   q : ℕ
   addresses : List ℕ
   disks : List DiskSpec
@@ -175,7 +175,7 @@ record Early (p : PlanState) : Type 0 where
 -- ---- the blocks
 
 -- the same plan, in another block and another stage
-abbrev relabelled : Block → Stage → PlanState → PlanState
+abbrev relabelled : Block → ScheduleStage → PlanState → PlanState
 relabelled place stage p = record p { block = place; declared = record p.declared { stage = stage } }
 
 -- the block after the printed text: the fabric's line is printed only with one of its inputs
@@ -201,7 +201,7 @@ Shaped block.Fabric parts = Unit {0}
 -- one line more is one line more to read.
 record Late (p : PlanState) : Type 0 where
   place : Block
-  stage : Stage
+  stage : ScheduleStage
   tied : Tied p.block place p.plan.fabric
   shaped : Shaped p.block p.plan
   leads : Leads nothing_planned (plan_text p.plan) (relabelled place stage p)
@@ -213,7 +213,7 @@ all_text q disks phys =
     let text = (queues_text q ++ disks_text disks) ++ expanders_text 0 phys in
     sym (append-nil ((text ++ []) ++ []) ∙ append-nil (text ++ []) ∙ append-nil text)
 
-late_setup : (stage : Stage) (q : ℕ) (addresses : List ℕ) (disks : List DiskSpec) (phys : List ℕ) → QueuesRead q → DisksRead addresses disks → ExpandersRead phys → Late (setup stage q addresses disks phys)
+late_setup : (stage : ScheduleStage) (q : ℕ) (addresses : List ℕ) (disks : List DiskSpec) (phys : List ℕ) → QueuesRead q → DisksRead addresses disks → ExpandersRead phys → Late (setup stage q addresses disks phys)
 late_setup stage q addresses disks phys a b c =
     let one = a in
     let two = b one.stage q one.early in
@@ -292,7 +292,7 @@ abbrev at : Block → Declared → List ℕ → ℕ → PlanParts → PlanState
 at place d ns k parts = record { block = place; declared = d; numbers = ns; lines = k; plan = parts }
 
 -- an input is judged alike whatever the stage
-judged_alike : (place : Block) (stage : Stage) (d : Declared) (ns : List ℕ) (k : ℕ) (parts : PlanParts) (x : Input) → judged_line (relabelled place stage (at place d ns k parts)) (input_statement x) ≡ judged_line (at place d ns k parts) (input_statement x)
+judged_alike : (place : Block) (stage : ScheduleStage) (d : Declared) (ns : List ℕ) (k : ℕ) (parts : PlanParts) (x : Input) → judged_line (relabelled place stage (at place d ns k parts)) (input_statement x) ≡ judged_line (at place d ns k parts) (input_statement x)
 judged_alike place stage d ns k parts input.Start = refl
 judged_alike place stage d ns k parts (input.Submit n address form) = refl
 judged_alike place stage d ns k parts (input.Abort n) = refl
@@ -311,7 +311,7 @@ record May (p : PlanState) (x : Input) : Type 0 where
 abbrev after_input : PlanState → Input → PlanState
 after_input p x = planned_after p (planned.Line (line.Input x))
 
-input_leads : (place : Block) (stage : Stage) (d : Declared) (ns : List ℕ) (k : ℕ) (parts : PlanParts) (x : Input) → May (at place d ns k parts) x
+input_leads : (place : Block) (stage : ScheduleStage) (d : Declared) (ns : List ℕ) (k : ℕ) (parts : PlanParts) (x : Input) → May (at place d ns k parts) x
     → Leads (relabelled place stage (at place d ns k parts)) (input_line x ++ line_end) (after_input (at place d ns k parts) x)
 input_leads place stage d ns k parts x m =
     let answered = judged_alike place stage d ns k parts x ∙ m.judged in
@@ -322,7 +322,7 @@ input_leads place stage d ns k parts x m =
 led : (p : PlanState) (place : Block) (l : Late p) → l.place ≡ place → Leads nothing_planned (plan_text p.plan) (relabelled place l.stage p)
 led p place l e = subst (λ (b : Block). Leads nothing_planned (plan_text p.plan) (relabelled b l.stage p)) e l.leads
 
-fabric_judged : (place : Block) (stage : Stage) (p : PlanState) → is_fabric place ≡ false → plan_judged (relabelled place stage p) plan.Fabric ≡ Ok planned.Fabric
+fabric_judged : (place : Block) (stage : ScheduleStage) (p : PlanState) → is_fabric place ≡ false → plan_judged (relabelled place stage p) plan.Fabric ≡ Ok planned.Fabric
 fabric_judged place stage p e = rw e refl
 
 fabric_first_text : (parts : PlanParts) (x : Input) → (plan_text (record parts { fabric = [] }) ++ (codes "fabric" ++ line_end)) ++ (input_line x ++ line_end) ≡ plan_text (record parts { fabric = x ∷ [] })
@@ -390,7 +390,7 @@ late_input block.Submitter d ns k parts x m l =
 late_input block.Fabric d ns k parts x m l = late_fabric parts.fabric d ns k parts x m l
 
 -- after the first line of a submitter's block
-submitter_judged : (place : Block) (stage : Stage) (p : PlanState) (number : ℕ) → is_fabric place ≡ false → (number == length p.plan.submitters) ≡ true → nat_le 8 (length p.plan.submitters) ≡ false
+submitter_judged : (place : Block) (stage : ScheduleStage) (p : PlanState) (number : ℕ) → is_fabric place ≡ false → (number == length p.plan.submitters) ≡ true → nat_le 8 (length p.plan.submitters) ≡ false
     → plan_judged (relabelled place stage p) (plan.Submitter number) ≡ Ok planned.Submitter
 submitter_judged place stage p number e f g = rw (e, f, g) refl
 
@@ -519,7 +519,7 @@ by_input p said x same h c j is r =
 line_step : (p : PlanState) (said : Statement) → Fits (plan.Line said) → Passed p said → judged_line p said ≡ Ok (line_of said) → Reread p → Reread (after_line p said)
 line_step p (statement.Queues q) h c j r = by_declaration p (statement.Queues q) h.1 c r (early_queues p q h.1 (r.early (first_only p.declared.stage (not_false _ c.placed))))
   where
-    first_only : (stage : Stage) → is_first stage ≡ true → is_steps stage ≡ false
+    first_only : (stage : ScheduleStage) → is_first stage ≡ true → is_steps stage ≡ false
     first_only First e = refl
     first_only Declarations e = refl
     first_only Steps e = cc

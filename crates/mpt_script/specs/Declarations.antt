@@ -13,15 +13,15 @@ use Rattle.mpt_lines.specs.declared.fault.Cause.{Cause}
 use Rattle.mpt_lines.specs.declared.fault.Cause.TheVariants.{Order, Again, Many, Name}
 use Rattle.mpt_script.specs.declared.line.Line.{Line}
 use Rattle.mpt_script.specs.declared.line.Line.TheVariants as line
-use Rattle.mpt_script.specs.declared.stage.Stage.{Stage}
-use Rattle.mpt_script.specs.declared.stage.Stage.TheVariants.{First, Declarations, Steps}
+use Rattle.mpt_script.specs.declared.schedule_stage.ScheduleStage.{ScheduleStage}
+use Rattle.mpt_script.specs.declared.schedule_stage.ScheduleStage.TheVariants.{First, Declarations, Steps}
 use Rattle.mpt_lines.specs.declared.statement.Statement.{Statement}
 use Rattle.mpt_lines.specs.declared.statement.Statement.TheVariants as statement
 
 -- where the text is, the number of reply post queues, the disks' addresses and the expanders' numbers
 -- of phys in their order, how many resets were asked, and the sum of the lengths of the submissions
 pub record Declared : Type 0 where
-  pub stage : Stage
+  pub stage : ScheduleStage
   pub queues : ℕ
   pub addresses : List ℕ
   pub phys : List ℕ
@@ -72,11 +72,11 @@ has_queue d (IocPutOn queue) = nat_lt queue d.queues
 has_queue d (HostTakeOn queue) = nat_lt queue d.queues
 has_queue d _ = true
 
-abbrev pub is_first : Stage → Bool
+abbrev pub is_first : ScheduleStage → Bool
 is_first First = true
 is_first _ = false
 
-abbrev pub is_steps : Stage → Bool
+abbrev pub is_steps : ScheduleStage → Bool
 is_steps Steps = true
 is_steps _ = false
 

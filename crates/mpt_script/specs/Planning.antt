@@ -18,7 +18,7 @@ use Rattle.mpt_script.specs.declared.planning.Block.{Block}
 use Rattle.mpt_script.specs.declared.planning.Block.TheVariants as block
 use Rattle.mpt_script.specs.declared.planning.PlanLine.{PlanLine}
 use Rattle.mpt_script.specs.declared.planning.PlanLine.TheVariants as planned
-use Rattle.mpt_script.specs.declared.stage.Stage.TheVariants.{Steps}
+use Rattle.mpt_script.specs.declared.schedule_stage.ScheduleStage.TheVariants.{Steps}
 use Rattle.mpt_script.specs.Declarations.{Declared, HasRoom, after, is_misplaced, is_repeated, is_too_many, is_unknown, line_of, nothing_declared}
 use Rattle.mpt_script.specs.PlanParts.{PlanParts}
 use Rattle.mpt_script.specs.PlanState.{PlanState}

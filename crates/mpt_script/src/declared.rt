@@ -5,7 +5,7 @@ ghost use Rattle.mpt_script.specs.Declarations as spec;
 ghost use Rattle.mpt_script.specs.Planning as plan;
 
 use crate::line::Line;
-use crate::stage::Stage;
+use crate::schedule_stage::ScheduleStage;
 use mpt_lines::{Cause, Statement};
 use mpt_text::OutOfMemory;
 use mpt_trace::{Address, Choice, CommandForm, Input};
@@ -31,7 +31,7 @@ const TRANSFER: u32 = 4096;
 /// What the lines so far have declared.
 #[derive(Drop)]
 pub(crate) struct Declared {
-    stage: Stage,
+    stage: ScheduleStage,
     queues: u8,
     addresses: BTreeSet<Address>,
     phys: Vec<u8>,
@@ -56,7 +56,7 @@ impl Declared {
         ensures { result ≡ spec.nothing_declared }
     {
         Declared {
-            stage: Stage::First,
+            stage: ScheduleStage::First,
             queues: 1,
             addresses: BTreeSet::new(alloc),
             phys: Vec::new(alloc),
@@ -89,10 +89,10 @@ impl Declared {
         ensures { result ≡ spec.is_misplaced self.now statement.now }
     {
         match statement {
-            Statement::Queues(_) => !matches!(self.stage, Stage::First),
-            Statement::Disk(_) => matches!(self.stage, Stage::Steps),
+            Statement::Queues(_) => !matches!(self.stage, ScheduleStage::First),
+            Statement::Disk(_) => matches!(self.stage, ScheduleStage::Steps),
             Statement::Expander { number, .. } => {
-                matches!(self.stage, Stage::Steps) || *number != self.phys.len() as u128
+                matches!(self.stage, ScheduleStage::Steps) || *number != self.phys.len() as u128
             }
             _ => false,
         }
@@ -163,7 +163,7 @@ impl Declared {
     pub fn begin(&mut self)
         ensures { self.new ≡ plan.begun self.old }
     {
-        self.stage = Stage::Steps;
+        self.stage = ScheduleStage::Steps;
     }
 
     /// Adds what a line declares. The line is one that `line` answered.
@@ -174,22 +174,22 @@ impl Declared {
         match line {
             Line::Queues(queues) => {
                 self.queues = *queues;
-                self.stage = Stage::Declarations;
+                self.stage = ScheduleStage::Declarations;
             }
             Line::Disk(disk) => {
                 self.addresses.insert(disk.address)?;
-                self.stage = Stage::Declarations;
+                self.stage = ScheduleStage::Declarations;
             }
             Line::Expander { phys } => {
                 self.phys.push(*phys)?;
-                self.stage = Stage::Declarations;
+                self.stage = ScheduleStage::Declarations;
             }
             Line::Input(input) => {
                 self.resets += resets_of(input);
                 self.total += data_of(input);
-                self.stage = Stage::Steps;
+                self.stage = ScheduleStage::Steps;
             }
-            Line::Choice { .. } | Line::Drain => self.stage = Stage::Steps,
+            Line::Choice { .. } | Line::Drain => self.stage = ScheduleStage::Steps,
         }
         Ok(())
     }

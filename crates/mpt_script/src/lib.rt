@@ -14,7 +14,7 @@ mod planning;
 mod print;
 mod printed_plan;
 mod schedule;
-mod stage;
+mod schedule_stage;
 #[cfg(test)]
 mod tests;
 

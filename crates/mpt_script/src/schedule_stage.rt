@@ -2,7 +2,7 @@
 
 /// Which part of a schedule is being read.
 #[derive(Clone, Copy)]
-pub(crate) enum Stage {
+pub(crate) enum ScheduleStage {
     /// No line has said anything.
     First,
     /// Disks and expanders are declared.

@@ -1,0 +1,4 @@
+mod Limits
+mod OfCases
+mod Summaries
+mod Turns
