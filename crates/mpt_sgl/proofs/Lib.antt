@@ -5,6 +5,7 @@ pub mod ElementRows
 pub mod FrameCounts
 pub mod FrameSteps
 pub mod ListsTold
+pub mod OneSpelling
 pub mod ReadSteps
 pub mod RowSplit
 pub mod Rows

@@ -6,3 +6,4 @@ pub mod Segments
 pub mod Faults
 pub mod Areas
 pub mod Held
+pub mod Listing

@@ -48,3 +48,12 @@ pub record Spells (list : ScatterList) (c : Chained) : Type 0 where
   pub frames : length c.frames ≡ frame_count (length list.pieces)
   pub row : (unused : ℕ) × (elements c.first c.frames ≡ row_of list.to_device list.pieces (addresses c.frames) ++ replicate unused unused_element)
   pub clear : IsTrue (is_clear c.first c.frames)
+
+-- so many numbers, each of them a byte's
+abbrev pub is_area : ℕ → List ℕ → Bool
+is_area size bytes = (length bytes == size) && list_all (λ byte. nat_lt byte 256) bytes
+
+-- the first area and the frames are of their sizes, as the code's arrays are
+pub record IsSized (c : Chained) : Type 0 where
+  pub first : IsTrue (is_area 32 c.first)
+  pub frames : IsTrue (list_all (λ (frame : ChainFrame). is_area 128 frame.bytes) c.frames)
