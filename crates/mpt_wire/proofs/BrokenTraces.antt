@@ -120,7 +120,7 @@ never_returned : TurnsPass (frame_stage frame) (entry.Put lane.Up the_reply ∷ 
 never_returned h = let e : ◌≡◌ {A = ℕ} 2 0 = h.0 in absurd (omega arith)
 
 -- a frame is returned twice
-returned_twice : TurnsPass (frame_stage frame) (entry.Put lane.Down the_return ∷ entry.Put lane.Down the_return ∷ []) → ⊥
+returned_twice : TurnsPass (frame_stage frame) (entry.Put lane.Down the_return ∷ entry.Put lane.Down (item.Down (down.Return frame 2)) ∷ []) → ⊥
 returned_twice h = let e : ◌≡◌ {A = ℕ} 0 1 = h.1.0 in absurd (omega arith)
 
 -- a frame is returned before its reply was taken

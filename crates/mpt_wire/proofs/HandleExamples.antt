@@ -45,6 +45,9 @@ takes_up i = entry.Take lane.Up (item.Up i)
 abbrev pub takes_back : Back → Entry
 takes_back i = entry.Take lane.Back (item.Back i)
 
+abbrev pub puts_back : Back → Entry
+puts_back i = entry.Put lane.Back (item.Back i)
+
 abbrev pub address : ℕ
 address = 0x5000_c500_0000_0001
 

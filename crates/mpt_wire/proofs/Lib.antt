@@ -15,6 +15,9 @@ pub mod Lasting
 pub mod LeastFree
 pub mod Leaving
 pub mod Lives
+pub mod LoneBreaks
+pub mod LoneCommands
+pub mod LonePasses
 pub mod MachineExamples
 pub mod MachineFacts
 pub mod MarkExamples

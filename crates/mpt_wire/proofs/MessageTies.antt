@@ -68,6 +68,10 @@ says s r page = entry.Put lane.Up (item.Up (up.Reply (address_descriptor s (repl
 abbrev hears : IocReply → Entry
 hears r = entry.Take lane.Up (item.Up (up.Reply (address_descriptor 0 (reply_frame_address 0)) (Some (reply_frame r)) [] []))
 
+-- the reply frame is returned
+abbrev returned : List Entry
+returned = entry.Put lane.Down (item.Down (down.Return (reply_frame_address 0) 1)) ∷ entry.Take lane.Down (item.Down (down.Return (reply_frame_address 0) 1)) ∷ []
+
 -- ---- the post of a command
 
 abbrev accepted : List Entry
@@ -94,7 +98,7 @@ data_unasked p = let wrong : ◌≡◌ {A = List ℕ} (7 ∷ []) [] = p.1.1.0.mo
 without_data : OnlyCommandsHaveData (posts 265 (ask.Remove 9) ∷ [])
 without_data = (refl, tt)
 
-with_data : OnlyCommandsHaveData (entry.Put lane.Down (item.Down (down.Post (post_descriptor post.Default 0 265 0) (frame_of (ask.Remove 9)) (7 ∷ []))) ∷ []) → ⊥
+with_data : OnlyCommandsHaveData (entry.Put lane.Down (item.Down (down.Post (post_descriptor post.Default 0 265 0) (frame_of ask.Notification) (7 ∷ []))) ∷ []) → ⊥
 with_data p = let wrong : ◌≡◌ {A = List ℕ} (7 ∷ []) [] = p.0 in absurd cc
 
 -- ---- a reply answers the last post of its identifier
@@ -140,8 +144,8 @@ another_phy p =
     apart 2 3 refl (ap (λ xs. slice_index xs 0x25) (same_frame (reply_frame (reply.Topology 1 9 0 4 2 true)) (reply_frame (reply.Topology 1 9 0 4 3 true)) p.1.1.0))
 
 -- of nothing that changed
-of_nothing : EventsAreOfChanges (4 ∷ []) (says 0 (reply.Topology 1 9 0 4 3 true) [] ∷ []) → ⊥
-of_nothing p = p.0
+of_nothing : EventsAreOfChanges (4 ∷ []) (returned ++ says 0 (reply.Topology 1 9 0 4 3 true) [] ∷ []) → ⊥
+of_nothing p = p.1.1.0
 
 -- ---- pages
 

@@ -133,9 +133,8 @@ reset_walks : WalksOnPaths 1 (posted ++ entry.Answer 1 outcome.Reset ∷ [])
 unfolding field
 reset_walks = (tt, (tt, (tt, (tt, (tt, tt)))))
 
--- a post before the accept
-unaccepted : WalksOnPaths 1 (the_post ∷ []) → ⊥
-unfolding field
+-- a result where nothing was accepted
+unaccepted : WalksOnPaths 1 (entry.Put lane.Back (item.Back (back.Result 1 good)) ∷ []) → ⊥
 unaccepted p = p.0
 
 -- a command that is answered a second time after its abort

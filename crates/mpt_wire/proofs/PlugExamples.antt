@@ -6,7 +6,7 @@ use Rattle.mpt_trace.specs.declared.entry.Entry.TheVariants as entry
 use Rattle.mpt_wire.specs.Walks.Passes.{Passes}
 use Rattle.mpt_wire.specs.Handles.Bindings.{least_unbound_from}
 use Rattle.mpt_wire.specs.Handles.Plugs.{ServedAsks, ServesPlugs, Serving, nothing_bound, served_next}
-use Rattle.mpt_wire.proofs.HandleExamples.{address, apart, is_added, plugged, puts_up, takes_back, unplugged}
+use Rattle.mpt_wire.proofs.HandleExamples.{address, apart, is_added, plugged, puts_back, puts_up, takes_back, unplugged}
 
 -- ---- plugs
 
@@ -31,7 +31,7 @@ unfolding least_unbound_from
 not_served s = s.passes.1.0
 
 -- not never
-never_served : ServesPlugs (takes_back (plugged 1) ∷ []) → ⊥
+never_served : ServesPlugs (puts_back (plugged 1) ∷ takes_back (plugged 1) ∷ []) → ⊥
 unfolding least_unbound_from
 never_served s = let wrong = s.ended in cc
 

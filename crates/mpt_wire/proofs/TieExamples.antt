@@ -28,8 +28,8 @@ unbinds : UnbindsAtResets (resets_unit ∷ entry.UnbindAll ∷ [])
 unbinds = (refl, (refl, tt))
 
 -- a reset that leaves the handles bound
-unbinds_not : UnbindsAtResets (resets_unit ∷ entry.Put lane.Out (item.Out (out.Link 1)) ∷ []) → ⊥
-unbinds_not p = true_isnt p.1.0
+unbinds_not : UnbindsAtResets (entry.Put lane.Down (item.Down (down.Write 0x00 0x40000000)) ∷ resets_unit ∷ entry.Put lane.Out (item.Out (out.Link 1)) ∷ []) → ⊥
+unbinds_not p = true_isnt p.1.1.0
 
 abbrev handshake : List Entry
 handshake =

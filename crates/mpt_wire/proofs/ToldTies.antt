@@ -1,5 +1,6 @@
 -- What is told where a reply says it, and what isn't.
 use Rattle.std.proofs.Common.{◌≡◌, ℕ, List, [], ◌∷◌, ◌++◌, None, refl, arith}
+use Rattle.mpt_trace.specs.declared.input.Input.TheVariants as input
 use Rattle.mpt_trace.specs.declared.lane.LaneName.TheVariants as lane
 use Rattle.mpt_trace.specs.declared.item.Item.TheVariants as item
 use Rattle.mpt_trace.specs.declared.item.Down.TheVariants as down
@@ -35,8 +36,8 @@ told_late p = let wrong = p.1.0.1 in absurd cc
 in_place : TellsInPlace (entry.Take lane.Up (item.Up up.Calm) ∷ entry.HostUp ∷ [])
 in_place = (tt, (refl, tt))
 
--- behind an entry of the fabric
-out_of_place : TellsInPlace (entry.Take lane.Up (item.Up up.Calm) ∷ entry.Run 5 1 ∷ entry.HostUp ∷ []) → ⊥
+-- behind an entry of the controller
+out_of_place : TellsInPlace (entry.Given input.Start ∷ entry.Put lane.Up (item.Up up.Calm) ∷ entry.HostUp ∷ []) → ⊥
 out_of_place p = let wrong = p.1.1.0 in absurd cc
 
 -- ---- the write that opens a handshake
