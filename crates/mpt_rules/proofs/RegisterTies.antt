@@ -29,8 +29,8 @@ reset : ValuesAreRegisters 1 (takes (down.Write 0x00 0x4000_0000) ∷ reads 0x00
 reset = (tt, (tt, (refl, (tt, (tt, (refl, tt))))))
 
 -- one that reads as OPERATIONAL, though no IOC Init was taken
-operational_early : ValuesAreRegisters 1 (reads 0x00 0x2000_0000) → ⊥
-operational_early p = apart 0x2000_0000 0x1000_0000 refl p.1.0
+operational_early : ValuesAreRegisters 1 (entry.Put lane.Down (item.Down (down.Read 0x00)) ∷ reads 0x00 0x2000_0000) → ⊥
+operational_early p = apart 0x2000_0000 0x1000_0000 refl p.1.1.0
 
 -- one that is linked by another reset's link
 linked_early : ValuesAreRegisters 1 (takes (down.Write 0x00 0x4000_0000) ∷ entry.Take lane.Back (item.Back (back.Linked 2)) ∷ reads 0x00 0x1000_0000) → ⊥

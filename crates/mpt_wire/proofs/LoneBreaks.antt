@@ -35,7 +35,6 @@ use Rattle.mpt_trace.specs.declared.item.Down.{Down}
 use Rattle.mpt_trace.specs.declared.item.Down.TheVariants as down
 use Rattle.mpt_trace.specs.declared.item.Up.{Up}
 use Rattle.mpt_trace.specs.declared.item.Up.TheVariants as up
-use Rattle.mpt_trace.specs.declared.item.Out.TheVariants as out
 use Rattle.mpt_trace.specs.declared.item.Back.{Back}
 use Rattle.mpt_trace.specs.declared.item.Back.TheVariants as back
 use Rattle.mpt_trace.specs.declared.entry.Entry.{Entry}
@@ -189,15 +188,6 @@ ready_without_page =
 breaks_told : RepliesAreTold ready_without_page → ⊥
 breaks_told p = p.1.1.1.1.1.0
 
--- ---- counts
-
--- the fabric is asked for a target reset that nobody posted
-abbrev pub reset_of_nobody : List Entry
-reset_of_nobody = entry.Put lane.Out (item.Out (out.TargetReset 257 5)) ∷ []
-
-breaks_counts : CountsPass 257 reset_of_nobody → ⊥
-breaks_counts p = let wrong = p.0 in absurd cc
-
 -- ---- once the event notification is answered
 
 abbrev is_notified : List Entry
@@ -282,9 +272,9 @@ is_reset =
 abbrev pub reset_miscounted : List Entry
 reset_miscounted = is_reset ++ puts_up (says 257 2 (reply.Task 9 3 0 0 1) []) ∷ []
 
-breaks_reset_counts : CountsPass 257 reset_miscounted → ⊥
+breaks_counts : CountsPass 257 reset_miscounted → ⊥
 unfolding field event_reply_layout event_reply_values task_ask_layout task_ask_values task_reply_layout task_reply_values
-breaks_reset_counts p = apart 1 0 refl p.1.1.1.1.1.1.1.1.1.1.1.1.1.1.1.1.1.0
+breaks_counts p = apart 1 0 refl p.1.1.1.1.1.1.1.1.1.1.1.1.1.1.1.1.1.0
 
 -- a remove device succeeds, and its handle stays bound
 abbrev pub removed_bound : List Entry
