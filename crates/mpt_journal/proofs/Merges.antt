@@ -1,5 +1,5 @@
 -- The library's merge makes the merge of moments.
-use Rattle.std.proofs.Common.{◌≡◌, true, false, List, [], ◌∷◌, map, Bool, refl, sym, ap, inl, inr}
+use Rattle.std.proofs.Common.{◌≡◌, List, [], ◌∷◌, map, Bool, refl, sym, ap, inl, inr}
 use Rattle.std.proofs.lemmas.Bool.{cases_Bool}
 use Rattle.itertools.specs.List.{merge_at, merge_by}
 use Rattle.mpt_rules.specs.Session.Journals.{Of, is_not_after, merged, placed}

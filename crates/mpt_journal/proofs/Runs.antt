@@ -1,5 +1,5 @@
 -- What a run of the library's merge gives.
-use Rattle.std.proofs.Common.{◌≡◌, true, List, Bool, Option, map, refl, ap, ◌∙◌, subst}
+use Rattle.std.proofs.Common.{◌≡◌, true, List, Bool, Option, map, ap, ◌∙◌, subst}
 use Rattle.std.specs.Iterator.{Yields}
 use Rattle.std.specs.Iterator.Runs.{Run, YieldsRun}
 use Rattle.std.proofs.lemmas.Iterator.{YieldsList, items_from_drains}

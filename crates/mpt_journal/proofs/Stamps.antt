@@ -7,7 +7,6 @@ use Rattle.std.proofs.lemmas.List.Elements.{All-head, All-tail}
 use Rattle.mpt_rules.specs.Session.Journals.{At, Of, Row, all_merged, all_of, is_not_after, merged, party_number, placed}
 use Rattle.mpt_rules.specs.Session.Parts.{IsByStamp}
 use Rattle.mpt_journal.specs.Laws.{NeverFalls}
-use Rattle.mpt_journal.proofs.Merges.{merged-nil}
 
 -- the stamp s and the number n aren't after t and m
 abbrev pub before : ℕ → ℕ → ℕ → ℕ → Bool

@@ -1,10 +1,10 @@
 -- The merge of entries one by one is that of whole cases.
-use Rattle.std.proofs.Common.{◌≡◌, ℕ, ◌<◌, ◌≤◌, true, false, Bool, List, [], ◌∷◌, ◌++◌, map, arith, refl, sym, ap, ◌∙◌, inl, inr, append_assoc}
+use Rattle.std.proofs.Common.{◌≡◌, ℕ, true, false, List, [], ◌∷◌, ◌++◌, map, arith, refl, sym, ap, ◌∙◌, inl, inr}
 use Rattle.std.specs.Prelude.{All, flat_map}
 use Rattle.std.proofs.lemmas.Bool.{cases_Bool}
 use Rattle.std.proofs.lemmas.List.Elements.{All-head, All-tail, All-weaker}
 use Rattle.mpt_trace.specs.declared.entry.Entry.{Entry}
-use Rattle.mpt_rules.specs.Session.Journals.{At, Block, Later, Of, Rises, Row, all_merged, all_of, entries_of, is_not_after, merge, merged, moment_values, party_number, placed}
+use Rattle.mpt_rules.specs.Session.Journals.{At, Block, Of, Rises, Row, all_merged, all_of, entries_of, is_not_after, merge, merged, moment_values, party_number, placed}
 use Rattle.mpt_journal.specs.Laws.{CasesRise, NeverFalls, by_entries, each_of}
 use Rattle.mpt_journal.proofs.Merges.{merged-nil}
 use Rattle.mpt_journal.proofs.Stamps.{Follows, Sorted, before, before-not, before-through, sorted-all_merged, sorted-all_of}

@@ -1,6 +1,5 @@
-use Rattle.std.proofs.Common.{arith, ◌≡◌, ◌<◌, ◌+◌, length, map, take}
+use Rattle.std.proofs.Common.{arith, ◌<◌, length, take}
 use Rattle.std.proofs.lemmas.List.{take_more}
-use Rattle.mpt_rules.specs.Session.Journals.{moment_values}
 use Rattle.mpt_journal.specs.Moment.{of_moment}
 use Rattle.mpt_journal.proofs.Moments.{moment_values-push}
 use Rattle.mpt_journal.proofs.merging.copied.Goals as goal

@@ -1,11 +1,9 @@
-use Rattle.std.proofs.Common.{rules, ◌≡◌, true, IfOk, map, ℕ, List, Bor, refl, sym, ap, ◌∙◌}
+use Rattle.std.proofs.Common.{rules, ◌≡◌, map, ap, ◌∙◌}
 use Rattle.std.specs.Slice.Iter.{iter_rest}
 use Rattle.std.specs.Vec.Iter.{into_iter_items}
-use Rattle.std.proofs.lemmas.Iterator.{YieldsList, YieldsList-from_map_by, YieldsList-from_slice}
+use Rattle.std.proofs.lemmas.Iterator.{YieldsList-from_map_by, YieldsList-from_slice}
 use Rattle.std.proofs.lemmas.Result.{IfOk-weaker}
-use Rattle.mpt_rules.specs.Session.Journals.{Of, all_of, merged, party_number}
-use Rattle.mpt_trace.specs.declared.entry.Entry.{Entry}
-use Rattle.mpt_journal.specs.Journal.{stamped_by}
+use Rattle.mpt_rules.specs.Session.Journals.{all_of, merged, party_number}
 use Rattle.mpt_journal.specs.Moment.{of_moment}
 use Rattle.mpt_journal.proofs.Moments.{all_of-stamped, at_number}
 use Rattle.mpt_journal.proofs.Runs.{items-merged}
