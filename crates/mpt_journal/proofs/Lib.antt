@@ -1,0 +1,6 @@
+mod Merges
+mod Runs
+mod Moments
+mod Stamps
+mod Whole
+mod Parts

@@ -1,0 +1,5 @@
+use Rattle.mpt_journal.proofs.Parts.{journals_are_shown, parts_are_journals}
+use Rattle.mpt_journal.proofs.laws.merge_keeps_journals.Goals as goal
+
+pub returns : goal.returns
+returns c = record { moments = parts_are_journals; entries = journals_are_shown }
