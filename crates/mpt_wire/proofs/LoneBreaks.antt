@@ -1,6 +1,5 @@
 -- Traces of a few entries that one rule of the law refuses and no other.
-use Rattle.std.proofs.Common.{◌≡◌, ℕ, ◌+◌, ◌==◌, true, false, slice_index, List, [], ◌∷◌, ◌++◌, Some, refl, ap, arith}
-use Rattle.std.proofs.lemmas.Grind.{common_steps}
+use Rattle.std.proofs.Common.{◌≡◌, ℕ, ◌+◌, true, false, slice_index, List, [], ◌∷◌, ◌++◌, Some, refl, ap}
 use Rattle.mpi_layout.specs.Rows.{field}
 use Rattle.mpi_rings.specs.declared.request_descriptor.PostKind.TheVariants as post
 use Rattle.config_pages.specs.ConfigAsk.{config_ask_layout, config_ask_values}
@@ -29,8 +28,6 @@ use Rattle.mpt_messages.specs.declared.host_ask.HostAsk.TheVariants as ask
 use Rattle.mpt_messages.specs.declared.ioc_reply.IocReply.{IocReply}
 use Rattle.mpt_messages.specs.declared.ioc_reply.IocReply.TheVariants as reply
 use Rattle.mpt_trace.specs.declared.input.Input.TheVariants as input
-use Rattle.mpt_trace.specs.declared.lane.LaneName.TheVariants as lane
-use Rattle.mpt_trace.specs.declared.item.Item.TheVariants as item
 use Rattle.mpt_trace.specs.declared.item.Down.{Down}
 use Rattle.mpt_trace.specs.declared.item.Down.TheVariants as down
 use Rattle.mpt_trace.specs.declared.item.Up.{Up}
@@ -56,24 +53,20 @@ use Rattle.mpt_wire.specs.Ties.LastPosts.{AnswersAsk, RepliesAnswerPass}
 use Rattle.mpt_wire.specs.Ties.PagesTold.{PagesAreOfDisks}
 use Rattle.mpt_wire.specs.Ties.RemovalsUnbind.{RemovalsUnbind}
 use Rattle.mpt_wire.specs.Ties.ToldNext.{RepliesAreToldNext}
+use Rattle.mpt_wire.proofs.HandleExamples.{apart, puts_down, puts_up, takes_back, puts_back, takes_down, takes_up}
+use Rattle.mpt_wire.proofs.MessageExamples.{other_kind, same_some}
 
 -- ---- items
 
-abbrev pub puts_down : Down → Entry
-puts_down i = entry.Put lane.Down (item.Down i)
-
 -- the item goes over the lane: it is put and taken
 abbrev pub goes_down : Down → List Entry
-goes_down i = puts_down i ∷ entry.Take lane.Down (item.Down i) ∷ []
-
-abbrev pub puts_up : Up → Entry
-puts_up i = entry.Put lane.Up (item.Up i)
+goes_down i = puts_down i ∷ takes_down i ∷ []
 
 abbrev pub goes_up : Up → List Entry
-goes_up i = puts_up i ∷ entry.Take lane.Up (item.Up i) ∷ []
+goes_up i = puts_up i ∷ takes_up i ∷ []
 
 abbrev pub goes_back : Back → List Entry
-goes_back i = entry.Put lane.Back (item.Back i) ∷ entry.Take lane.Back (item.Back i) ∷ []
+goes_back i = puts_back i ∷ takes_back i ∷ []
 
 abbrev pub frame_of : HostAsk → List ℕ
 frame_of asked = message_frame (host_message asked)
@@ -89,10 +82,6 @@ returns frame = down.Return (reply_frame_address frame) (frame + 1)
 -- a reply to s in the reply frame, with this page
 abbrev pub says : ℕ → ℕ → IocReply → List ℕ → Up
 says s frame r page = up.Reply (address_descriptor s (reply_frame_address frame)) (Some (reply_frame r)) page []
-
--- two numbers that differ
-pub apart : (a b : ℕ) → (a == b) ≡ false → a ≡ b → ⊥
-apart a b n e = grind (arith, common_steps)
 
 -- ---- identifiers and frames
 
@@ -123,12 +112,6 @@ breaks_ring p = apart 0x10000 0x10080 refl (ap (λ xs. slice_index xs 0) p.1.1.1
 -- a request that isn't for the first reply queue
 abbrev pub on_second_queue : List Entry
 on_second_queue = puts_down (down.Post (post_descriptor post.Default 1 265 0) (frame_of ask.Notification) []) ∷ []
-
-same_some : (a b : ℕ) → Some a ≡ Some b → a ≡ b
-same_some a b e = cc
-
-other_kind : (handle : ℕ) → post_descriptor post.ScsiIo 0 265 handle ≡ post_descriptor post.Default 1 265 0 → ⊥
-other_kind handle e = absurd (omega arith)
 
 breaks_standing : EachEntry (MessageAsks 1) on_second_queue → ⊥
 breaks_standing p = by_ask p.0.ask p.0.described
@@ -161,8 +144,8 @@ breaks_answers p = by_ask p.1.1.1.1.0.ask p.1.1.1.1.0.reply p.1.1.1.1.0.asked p.
 
 -- ---- registers
 
--- a handshake is opened and its message written, and another register is read, which says nothing of the doorbell:
--- the status stays, as the reply isn't read
+-- a handshake is opened and its message written, and a register is read that no host reads, and that says nothing of
+-- the doorbell: the status stays, as the reply isn't read
 abbrev pub status_stays : List Entry
 status_stays =
     goes_down (down.Write 0x00 0x4203_0000) ++ goes_down (down.Write 0x00 0x0300_0000) ++ goes_down (down.Write 0x00 0) ++ goes_down (down.Write 0x00 0)

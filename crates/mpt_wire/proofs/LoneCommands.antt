@@ -35,7 +35,8 @@ use Rattle.mpt_wire.specs.Paths.Replies.{RepliesPass}
 use Rattle.mpt_wire.specs.Paths.Stops.{StopsPass}
 use Rattle.mpt_wire.specs.Queues.LeastFree.{LeastPass}
 use Rattle.mpt_wire.specs.Ties.CommandPosts.{CommandPostsPass, command_message}
-use Rattle.mpt_wire.proofs.LoneBreaks.{apart, frame_of, goes_down, goes_up, is_asked, puts_down, puts_up, returns, says}
+use Rattle.mpt_wire.proofs.LoneBreaks.{frame_of, goes_down, goes_up, is_asked, returns, says}
+use Rattle.mpt_wire.proofs.HandleExamples.{apart, puts_down, puts_up}
 
 -- ---- a disk that is ready, and a command that is accepted for it
 

@@ -35,7 +35,7 @@ use Rattle.mpt_wire.specs.Messages.DoorbellWords.{DoorbellTalks, IsBegun, IsDoor
 apart : (a b : ℕ) → (a == b) ≡ false → a ≡ b → ⊥
 apart a b n e = grind (arith, common_steps)
 
-same_some : (a b : ℕ) → Some a ≡ Some b → a ≡ b
+pub same_some : (a b : ℕ) → Some a ≡ Some b → a ≡ b
 same_some a b e = cc
 
 -- ---- the host's register accesses
@@ -102,7 +102,7 @@ removal : IsHostPost 1 (post_descriptor post.Default 0 265 0) (message_frame (ho
 removal = record { ask = ask.Remove 9; allowed = tt; own = tt; described = refl; framed = refl }
 
 -- the descriptor of a SCSI IO isn't that of another kind
-other_kind : (handle : ℕ) → post_descriptor post.ScsiIo 0 265 handle ≡ post_descriptor post.Default 1 265 0 → ⊥
+pub other_kind : (handle : ℕ) → post_descriptor post.ScsiIo 0 265 handle ≡ post_descriptor post.Default 1 265 0 → ⊥
 other_kind handle e = absurd (omega arith)
 
 -- with another reply queue than that of up
