@@ -6,7 +6,7 @@ use Rattle.std.proofs.lemmas.Bool.Decides.{nat_tests}
 use Rattle.std.proofs.lemmas.List.Elements.{All-head, All-tail}
 use Rattle.mpt_rules.specs.Session.Journals.{At, Of, Row, all_merged, all_of, is_not_after, merged, party_number, placed}
 use Rattle.mpt_rules.specs.Session.Parts.{IsByStamp}
-use Rattle.mpt_journal.specs.Laws.{NeverFalls}
+use Rattle.mpt_journal.specs.Laws.{NeverFalls, StampsNeverFall}
 
 -- the stamp s and the number n aren't after t and m
 abbrev pub before : ℕ → ℕ → ℕ → ℕ → Bool
@@ -71,3 +71,6 @@ module _ {X : Type 0} where
       sorted-merged (all_of (party_number row.party) row.moments) (all_merged rows)
       (sorted-all_of (party_number row.party) row.moments (All-head (λ (r : Row X). NeverFalls r.moments) row rows h))
       (sorted-all_merged rows (All-tail (λ (r : Row X). NeverFalls r.moments) row rows h))
+
+  pub merged_by_stamp : (rows : List (Row X)) → All StampsNeverFall rows → IsByStamp (all_merged rows)
+  merged_by_stamp rows h = by_stamp-sorted (all_merged rows) (sorted-all_merged rows h)
