@@ -81,13 +81,13 @@ NotBefore stamp [] = Unit {0}
 NotBefore stamp (x ∷ xs) = stamp ≤ x.stamp
 
 -- stamps never fall from moment to moment
-abbrev pub NeverFalls : {X : Type 0} → List (At X) → Type 0
-NeverFalls [] = Unit {0}
-NeverFalls (x ∷ xs) = NotBefore x.stamp xs × NeverFalls xs
+abbrev pub RisesOrStays : {X : Type 0} → List (At X) → Type 0
+RisesOrStays [] = Unit {0}
+RisesOrStays (x ∷ xs) = NotBefore x.stamp xs × RisesOrStays xs
 
 -- the stamps of a journal never fall
 abbrev pub StampsNeverFall : {X : Type 0} → Row X → Type 0
-StampsNeverFall row = NeverFalls row.moments
+StampsNeverFall row = RisesOrStays row.moments
 
 -- each moment of the merge isn't after the next
 abbrev pub MergesAreByStamp : Type 0 → Type 0
