@@ -4,3 +4,4 @@ mod Moments
 mod Stamps
 mod Whole
 mod Parts
+mod Cases

@@ -5,9 +5,9 @@ use Rattle.std.proofs.lemmas.Bool.{cases_Bool}
 use Rattle.std.proofs.lemmas.List.Elements.{All-head, All-tail, All-weaker}
 use Rattle.mpt_trace.specs.declared.entry.Entry.{Entry}
 use Rattle.mpt_rules.specs.Session.Journals.{At, Block, Of, Rises, Row, all_merged, all_of, entries_of, is_not_after, merge, merged, moment_values, party_number, placed}
-use Rattle.mpt_journal.specs.Laws.{CasesRise, NeverFalls, by_entries, each_of}
+use Rattle.mpt_journal.specs.Laws.{CasesRise, RisesOrStays, by_entries, each_of}
 use Rattle.mpt_journal.proofs.Merges.{merged-nil}
-use Rattle.mpt_journal.proofs.Stamps.{Follows, Sorted, before, before-not, before-through, sorted-all_merged, sorted-all_of}
+use Rattle.mpt_journal.proofs.Stamps.{IsntBefore, Sorted, before, before-not, before-through, sorted-all_merged, sorted-all_of}
 
 -- a value of the stamp s and the number n
 abbrev pub keyed : {X : Type 0} → ℕ → ℕ → X → Of X
@@ -28,7 +28,7 @@ IsPast s n (x ∷ xs) = before x.at.stamp x.number s n ≡ false
 
 module _ {X : Type 0} where
   -- what isn't after the other list comes first
-  merged-front : (s n : ℕ) (es : List X) (rest zs : List (Of X)) → Follows s n zs → merged (map (keyed s n) es ++ rest) zs ≡ map (keyed s n) es ++ merged rest zs
+  merged-front : (s n : ℕ) (es : List X) (rest zs : List (Of X)) → IsntBefore s n zs → merged (map (keyed s n) es ++ rest) zs ≡ map (keyed s n) es ++ merged rest zs
   merged-front s n [] rest zs h = refl
   merged-front s n (e ∷ es) rest [] h = ap (λ (ls : List (Of X)). keyed s n e ∷ ls) (merged-front s n es rest [] tt)
   merged-front s n (e ∷ es) rest (z ∷ zs) h = rw h (ap (λ (ls : List (Of X)). keyed s n e ∷ ls) (merged-front s n es rest (z ∷ zs) h))
@@ -40,15 +40,15 @@ module _ {X : Type 0} where
 
   -- ---- what the first of whole moments is, the first of their values is
 
-  follows-values : (s n t m : ℕ) (es : List X) (rest : List (Of X)) → before s n t m ≡ true → Follows s n rest → Follows s n (map (keyed t m) es ++ rest)
+  follows-values : (s n t m : ℕ) (es : List X) (rest : List (Of X)) → before s n t m ≡ true → IsntBefore s n rest → IsntBefore s n (map (keyed t m) es ++ rest)
   follows-values s n t m [] rest a b = b
   follows-values s n t m (e ∷ es) rest a b = a
 
-  follows-through : (s n t m : ℕ) (bs : List (Of (List X))) → before s n t m ≡ true → Follows t m bs → Follows s n bs
+  follows-through : (s n t m : ℕ) (bs : List (Of (List X))) → before s n t m ≡ true → IsntBefore t m bs → IsntBefore s n bs
   follows-through s n t m [] a b = tt
   follows-through s n t m (c ∷ cs) a b = before-through s n t m c.at.stamp c.number a b
 
-  follows-spread : (s n : ℕ) (bs : List (Of (List X))) → Follows s n bs → Sorted bs → Follows s n (all_spread bs)
+  follows-spread : (s n : ℕ) (bs : List (Of (List X))) → IsntBefore s n bs → Sorted bs → IsntBefore s n (all_spread bs)
   follows-spread s n [] a h = tt
   follows-spread s n (b ∷ bs) a h =
       follows-values s n b.at.stamp b.number b.at.value (all_spread bs) a
@@ -58,7 +58,7 @@ module _ {X : Type 0} where
   past-values s n t m [] rest a b = b
   past-values s n t m (e ∷ es) rest a b = a
 
-  past-through : (s n t m : ℕ) (bs : List (Of (List X))) → before t m s n ≡ false → Follows t m bs → IsPast s n bs
+  past-through : (s n t m : ℕ) (bs : List (Of (List X))) → before t m s n ≡ false → IsntBefore t m bs → IsPast s n bs
   past-through s n t m [] a b = tt
   past-through s n t m (c ∷ cs) a b = before-not s n t m c.at.stamp c.number a b
 
@@ -112,7 +112,7 @@ all_of-each n (b ∷ bs) =
     all_of-front n b.stamp b.value (flat_map each_of bs) ∙ ap (λ (zs : List (Of Entry)). map (keyed b.stamp n) b.value ++ zs) (all_of-each n bs)
 
 -- stamps that rise never fall
-pub never_falls : {X : Type 0} (moments : List (At X)) → Rises moments → NeverFalls moments
+pub never_falls : {X : Type 0} (moments : List (At X)) → Rises moments → RisesOrStays moments
 never_falls [] h = tt
 never_falls (x ∷ []) h = (tt, tt)
 never_falls (x ∷ y ∷ rest) h = (omega (arith, h.0), never_falls (y ∷ rest) h.1)
@@ -120,13 +120,13 @@ never_falls (x ∷ y ∷ rest) h = (omega (arith, h.0), never_falls (y ∷ rest)
 pub all_merged-entries : (journals : List (Row (List Entry))) → All CasesRise journals → all_merged (map by_entries journals) ≡ all_spread (all_merged journals)
 all_merged-entries [] h = refl
 all_merged-entries (row ∷ rows) h =
-    let falls : NeverFalls row.moments = never_falls row.moments (All-head CasesRise row rows h) in
+    let falls : RisesOrStays row.moments = never_falls row.moments (All-head CasesRise row rows h) in
     let rest : All CasesRise rows = All-tail CasesRise row rows h in
     let own : List (Of (List Entry)) = all_of (party_number row.party) row.moments in
     ap (λ (zs : List (Of Entry)). merged zs (all_merged (map by_entries rows))) (all_of-each (party_number row.party) row.moments)
     ∙ ap (λ (zs : List (Of Entry)). merged (all_spread own) zs) (all_merged-entries rows rest)
     ∙ merged-spread own (all_merged rows) (sorted-all_of (party_number row.party) row.moments falls)
-    (sorted-all_merged rows (All-weaker CasesRise (λ (r : Row (List Entry)). NeverFalls r.moments) (λ r rises. never_falls r.moments rises) rows rest))
+    (sorted-all_merged rows (All-weaker CasesRise (λ (r : Row (List Entry)). RisesOrStays r.moments) (λ r rises. never_falls r.moments rises) rows rest))
 
 pub merge-entries : (journals : List (Row (List Entry))) → All CasesRise journals → moment_values (all_merged (map by_entries journals)) ≡ merge journals
 merge-entries journals h =

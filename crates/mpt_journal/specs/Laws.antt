@@ -4,7 +4,7 @@ use Rattle.mpt_trace.specs.declared.entry.Entry.{Entry}
 use Rattle.mpt_trace.specs.declared.parties.Party.{Party}
 use Rattle.mpt_wire.specs.Walks.Ahead.{is_of}
 use Rattle.mpt_rules.specs.Session.Journals.{At, Block, Of, Rises, Row, all_merged, all_of, merge, moment_values, party_number}
-use Rattle.mpt_rules.specs.Session.Parts.{IsByStamp}
+use Rattle.mpt_rules.specs.Session.Parts.{IsByStamp, IsPartOf}
 
 -- ---- cases
 
@@ -44,8 +44,10 @@ abbrev pub HasJournal : {X : Type 0} → List (Of X) → Row X → Type 0
 HasJournal moments row = part_of row.party moments ≡ all_of (party_number row.party) row.moments
 
 -- of all the moments each party's are its journal, in order
-abbrev pub MergesKeepJournals : Type 0
-MergesKeepJournals = (journals : List (Row Entry)) → PartiesDiffer journals → All (HasJournal (all_merged journals)) journals
+abbrev pub MergesKeepJournals : Type 0 → Type 0
+MergesKeepJournals X = (journals : List (Row X)) → PartiesDiffer journals → All (HasJournal (all_merged journals)) journals
+
+-- ---- parties, of the entries alone
 
 -- the entries of a journal are its party's
 abbrev pub HasOwnEntries : Row Entry → Type 0
@@ -63,6 +65,14 @@ ShowsJournal trace row = filter (is_of row.party) trace ≡ row_values row
 abbrev pub MergesShowJournals : Type 0
 MergesShowJournals = (journals : List (Row Entry)) → PartiesDiffer journals → All HasOwnEntries journals → All (ShowsJournal (moment_values (all_merged journals))) journals
 
+-- the entries of a journal's cases are its party's
+abbrev pub HasOwnCases : Row (List Entry) → Type 0
+HasOwnCases row = All (λ (block : Block). All (λ (e : Entry). is_of row.party e ≡ true) block.value) row.moments
+
+-- the same where journals are of whole cases, whose stamps rise
+abbrev pub MergesShowCases : Type 0
+MergesShowCases = (journals : List (Row (List Entry))) → PartiesDiffer journals → All CasesRise journals → All HasOwnCases journals → All (IsPartOf (merge journals)) journals
+
 -- ---- stamps
 
 -- the first moment of a list has this stamp or a later one
@@ -71,14 +81,14 @@ NotBefore stamp [] = Unit {0}
 NotBefore stamp (x ∷ xs) = stamp ≤ x.stamp
 
 -- stamps never fall from moment to moment
-abbrev pub NeverFalls : {X : Type 0} → List (At X) → Type 0
-NeverFalls [] = Unit {0}
-NeverFalls (x ∷ xs) = NotBefore x.stamp xs × NeverFalls xs
+abbrev pub RisesOrStays : {X : Type 0} → List (At X) → Type 0
+RisesOrStays [] = Unit {0}
+RisesOrStays (x ∷ xs) = NotBefore x.stamp xs × RisesOrStays xs
 
 -- the stamps of a journal never fall
-abbrev pub StampsNeverFall : Row Entry → Type 0
-StampsNeverFall row = NeverFalls row.moments
+abbrev pub StampsNeverFall : {X : Type 0} → Row X → Type 0
+StampsNeverFall row = RisesOrStays row.moments
 
 -- each moment of the merge isn't after the next
-abbrev pub MergesAreByStamp : Type 0
-MergesAreByStamp = (journals : List (Row Entry)) → All StampsNeverFall journals → IsByStamp (all_merged journals)
+abbrev pub MergesAreByStamp : Type 0 → Type 0
+MergesAreByStamp X = (journals : List (Row X)) → All StampsNeverFall journals → IsByStamp (all_merged journals)

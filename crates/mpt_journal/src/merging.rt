@@ -11,10 +11,11 @@ use mpt_trace::{OutOfMemory, Trace};
 use std::alloc::Global;
 
 /// The trace of all journals: their entries by rising stamp, and where stamps are equal by the party's
-/// number (host 0, controller 1, fabric 2, submitter i 3 + i). Entries of one journal keep their order
-/// where its stamps never fall, and so do those of one stamp. Or OutOfMemory.
+/// number (host 0, controller 1, fabric 2, submitter i 3 + i), those of one journal in its order. Or
+/// OutOfMemory.
 ///
-/// Its work grows with the number of all entries times the number of journals.
+/// That the whole is by stamp rests on each journal's being so. The work grows with the number of all
+/// entries times the number of journals.
 pub fn merge(alloc: Global, journals: &[Journal]) -> Result<Trace, OutOfMemory>
     ensures { IfOk result (λ trace. trace.entries ≡ moment_values (all_merged (rows_of journals.now))) }
 {
