@@ -1,6 +1,6 @@
 -- An input names no more bytes than it has.
-use Rattle.std.proofs.Common.{◌≡◌, ℕ, ◌+◌, ◌*◌, ◌≤◌, Bool, true, false, not, List, length, refl, arith}
-use Rattle.std.specs.Prelude.{Option, Some, None, Result, Ok, Err, filter}
+use Rattle.std.proofs.Common.{◌≡◌, ℕ, ◌*◌, ◌≤◌, Bool, true, false, not, List, length, refl, arith}
+use Rattle.std.specs.Prelude.{Some, Result, Ok, Err, filter}
 use Rattle.std.specs.Result.{result_ok}
 use Rattle.std.proofs.lemmas.List.Filters.{length-filter_both}
 use Rattle.hex.specs.declared.error.FromHexError.{FromHexError}

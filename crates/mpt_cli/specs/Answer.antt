@@ -1,7 +1,7 @@
 -- What is printed of an input that was read whole.
 use Rattle.std.specs.Prelude.{◌≡◌, ℕ, ◌<◌, ◌≤◌, List, ◌++◌, length, codes, Option, Some, None}
 use Rattle.mpt_text.specs.Hexadecimal.{hexadecimal}
-use Rattle.mpi_layout.specs.Rows.{Shape, first_fault}
+use Rattle.mpi_layout.specs.Rows.{first_fault}
 use Rattle.mpi_layout.specs.declared.fault.Fault.{Fault}
 use Rattle.mpi_rings.specs.declared.reply_descriptor.ReplyDescriptor.{ReplyDescriptor}
 use Rattle.mpi_rings.specs.declared.request_descriptor.RequestDescriptor.{RequestDescriptor}
