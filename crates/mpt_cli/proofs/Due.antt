@@ -16,6 +16,7 @@ no_usage decoded.Reply (Some bytes) text h = h
 no_usage decoded.Post (Some bytes) text h = h
 no_usage decoded.Answer (Some bytes) text h = h
 no_usage decoded.Page0 (Some bytes) text h = h
+no_usage decoded.ScatterList (Some bytes) text h = h
 
 no_readfault : (what : Decoded) (read : Option (List ℕ)) (text : List ℕ) → IsHexAnswer what read status.ReadFault text → ⊥
 no_readfault what None text h = h
@@ -24,6 +25,7 @@ no_readfault decoded.Reply (Some bytes) text h = h
 no_readfault decoded.Post (Some bytes) text h = h
 no_readfault decoded.Answer (Some bytes) text h = h
 no_readfault decoded.Page0 (Some bytes) text h = h
+no_readfault decoded.ScatterList (Some bytes) text h = h
 
 no_writefault : (what : Decoded) (read : Option (List ℕ)) (text : List ℕ) → IsHexAnswer what read status.WriteFault text → ⊥
 no_writefault what None text h = h
@@ -32,6 +34,7 @@ no_writefault decoded.Reply (Some bytes) text h = h
 no_writefault decoded.Post (Some bytes) text h = h
 no_writefault decoded.Answer (Some bytes) text h = h
 no_writefault decoded.Page0 (Some bytes) text h = h
+no_writefault decoded.ScatterList (Some bytes) text h = h
 
 no_outofmemory : (what : Decoded) (read : Option (List ℕ)) (text : List ℕ) → IsHexAnswer what read status.OutOfMemory text → ⊥
 no_outofmemory what None text h = h
@@ -40,6 +43,7 @@ no_outofmemory decoded.Reply (Some bytes) text h = h
 no_outofmemory decoded.Post (Some bytes) text h = h
 no_outofmemory decoded.Answer (Some bytes) text h = h
 no_outofmemory decoded.Page0 (Some bytes) text h = h
+no_outofmemory decoded.ScatterList (Some bytes) text h = h
 
 -- the answer's text is due with its status
 due_answer : (what : Decoded) (o : Outside) (input text : List ℕ) (ended : Status) → IsInput o input → IsAnswer what input ended text → IsDue (Some (Decode what)) o ended text

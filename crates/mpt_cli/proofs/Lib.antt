@@ -1,2 +1,4 @@
 pub mod Due
+pub mod FramesRead
+pub mod InputLength
 pub mod Limits

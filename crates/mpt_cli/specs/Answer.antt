@@ -1,7 +1,7 @@
 -- What is printed of an input that was read whole.
-use Rattle.std.specs.Prelude.{◌≡◌, ℕ, ◌<◌, ◌≤◌, List, ◌++◌, codes, Option, Some, None}
+use Rattle.std.specs.Prelude.{◌≡◌, ℕ, ◌<◌, ◌≤◌, List, ◌++◌, length, codes, Option, Some, None}
 use Rattle.mpt_text.specs.Hexadecimal.{hexadecimal}
-use Rattle.mpi_layout.specs.Rows.{Shape, first_fault}
+use Rattle.mpi_layout.specs.Rows.{first_fault}
 use Rattle.mpi_layout.specs.declared.fault.Fault.{Fault}
 use Rattle.mpi_rings.specs.declared.reply_descriptor.ReplyDescriptor.{ReplyDescriptor}
 use Rattle.mpi_rings.specs.declared.request_descriptor.RequestDescriptor.{RequestDescriptor}
@@ -22,7 +22,11 @@ use Rattle.mpt_cli.specs.declared.command.Decoded.TheVariants as decoded
 use Rattle.mpt_cli.specs.declared.status.Status.{Status}
 use Rattle.mpt_cli.specs.declared.status.Status.TheVariants as status
 use Rattle.mpt_messages.specs.DescriptorListing.{page_listing, reply_descriptor_listing, request_descriptor_listing}
+use Rattle.mpt_sgl.specs.declared.list.List.{List as ScatterList}
+use Rattle.mpt_sgl.specs.Listing.{list_listing}
+use Rattle.mpt_sgl.specs.Spelling.{Spells}
 use Rattle.mpt_cli.specs.Input.{line_count}
+use Rattle.mpt_cli.specs.ScatterInput.{chained_in, scatter_refusal, whole_size}
 
 -- the answer to bytes as a request of this kind: the listing of the request that they stand for, or the line of
 -- their first refusal
@@ -65,6 +69,14 @@ IsPageAnswer bytes status.Refused text =
     × (text ≡ fault_text (device_page0_layout).rows fault)
 IsPageAnswer bytes _ text = ⊥
 
+-- as a scatter list
+abbrev pub IsScatterAnswer : List ℕ → Status → List ℕ → Type 0
+IsScatterAnswer bytes status.Ok text =
+    (whole_size (length bytes) ≡ length bytes) × (list : ScatterList) × Spells list (chained_in bytes)
+    × (text ≡ list_listing list)
+IsScatterAnswer bytes status.Refused text = scatter_refusal bytes ≡ Some text
+IsScatterAnswer bytes _ text = ⊥
+
 -- the answer to bytes
 abbrev pub IsBytesAnswer : Decoded → List ℕ → Status → List ℕ → Type 0
 IsBytesAnswer (decoded.Request kind) bytes ended text = IsRequestAnswer kind bytes ended text
@@ -72,6 +84,7 @@ IsBytesAnswer decoded.Reply bytes ended text = IsReplyAnswer bytes ended text
 IsBytesAnswer decoded.Post bytes ended text = IsPostAnswer bytes ended text
 IsBytesAnswer decoded.Answer bytes ended text = IsReplyDescriptorAnswer bytes ended text
 IsBytesAnswer decoded.Page0 bytes ended text = IsPageAnswer bytes ended text
+IsBytesAnswer decoded.ScatterList bytes ended text = IsScatterAnswer bytes ended text
 
 -- the answer to hexadecimal input
 abbrev pub IsHexAnswer : Decoded → Option (List ℕ) → Status → List ℕ → Type 0

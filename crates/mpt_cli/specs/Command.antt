@@ -19,6 +19,7 @@ decoded_of word =
     else if bytes_eq word (codes "post") then Some decoded.Post
     else if bytes_eq word (codes "answer") then Some decoded.Answer
     else if bytes_eq word (codes "page0") then Some decoded.Page0
+    else if bytes_eq word (codes "sgl") then Some decoded.ScatterList
     else None
 
 -- the command that the words name

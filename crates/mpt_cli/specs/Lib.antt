@@ -1,4 +1,5 @@
 pub mod Command
 pub mod Input
+pub mod ScatterInput
 pub mod Answer
 pub mod Run

@@ -1,5 +1,5 @@
 //! What is printed of an input that was read whole.
-ghost use Rattle.std.specs.Prelude.{◌≡◌, IfOk};
+ghost use Rattle.std.specs.Prelude.{◌≡◌, ◌<◌, ◌^◌, IfOk, length};
 ghost use Rattle.mpt_cli.specs.Answer.{IsAnswer};
 
 use crate::command::Decoded;
@@ -34,6 +34,7 @@ impl Answer {
 
 /// The answer to the whole input of `decode`.
 pub fn answer_to(alloc: Global, decoded: Decoded, input: &[u8]) -> Result<Answer, OutOfMemory>
+    requires { length input.now < 2 ^ 32 }
     ensures { IfOk result (λ a. IsAnswer decoded input.now a.status a.text) }
 {
     if count_lines(input) > MOST_LINES {

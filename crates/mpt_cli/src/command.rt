@@ -18,6 +18,8 @@ pub enum Decoded {
     Answer,
     /// `page0`: a SAS Device Page 0.
     Page0,
+    /// `sgl`: a scatter list.
+    ScatterList,
 }
 
 impl Decoded {
@@ -34,6 +36,7 @@ impl Decoded {
             "post" => Some(Decoded::Post),
             "answer" => Some(Decoded::Answer),
             "page0" => Some(Decoded::Page0),
+            "sgl" => Some(Decoded::ScatterList),
             _ => None,
         }
     }
@@ -42,7 +45,7 @@ impl Decoded {
 /// What the words ask for.
 #[derive(Clone, Copy, Debug, PartialEq, Eq)]
 pub enum Command {
-    /// `decode <kind>`: the fields of one message, descriptor or page.
+    /// `decode <kind>`: the fields of one message, descriptor or page, or a scatter list.
     Decode(Decoded),
     /// `gen <number>`: the schedule of this number.
     Gen(u64),

@@ -1,22 +1,25 @@
 //! The listing of what bytes stand for, or the line of their refusal.
-ghost use Rattle.std.specs.Prelude.{◌≡◌, IfOk};
-ghost use Rattle.mpt_cli.specs.Answer.{IsBytesAnswer, IsPageAnswer, IsPostAnswer, IsReplyAnswer, IsReplyDescriptorAnswer, IsRequestAnswer};
+ghost use Rattle.std.specs.Prelude.{◌≡◌, ◌<◌, ◌^◌, IfOk, length};
+ghost use Rattle.mpt_cli.specs.Answer.{IsBytesAnswer, IsPageAnswer, IsPostAnswer, IsReplyAnswer, IsReplyDescriptorAnswer, IsRequestAnswer, IsScatterAnswer};
 ghost use Rattle.mpt_cli.specs.declared.status.Status.TheVariants as status;
 
 use crate::answer::Answer;
 use crate::command::Decoded;
+use crate::scatter_input::{chained_in, whole_size};
 use crate::status::Status;
 use config_pages::{DevicePage0, decode_device_page0};
 use mpi_rings::{ReplyDescriptor, RequestDescriptor, read_post, read_reply};
 use mpt_messages::{
     Kind, decode_reply, decode_request, list_page, list_reply_descriptor, list_request_descriptor,
-    list_text, push_fault, push_reply_refusal, push_request_refusal,
+    list_text, push_fault, push_reply_refusal, push_request_refusal, push_short,
 };
+use mpt_sgl::{SglFault, fault_text, list_text as scatter_list_text, read_list};
 use mpt_text::{OutOfMemory, Text};
 use std::alloc::Global;
 
 /// The answer to bytes: the listing of what they stand for, or the line of their first refusal.
 pub fn answer_to_bytes(alloc: Global, decoded: Decoded, bytes: &[u8]) -> Result<Answer, OutOfMemory>
+    requires { length bytes.now < 2 ^ 32 }
     ensures { IfOk result (λ a. IsBytesAnswer decoded bytes.now a.status a.text) }
 {
     match decoded {
@@ -25,6 +28,7 @@ pub fn answer_to_bytes(alloc: Global, decoded: Decoded, bytes: &[u8]) -> Result<
         Decoded::Post => answer_to_post(alloc, bytes),
         Decoded::Answer => answer_to_reply_descriptor(alloc, bytes),
         Decoded::Page0 => answer_to_page(alloc, bytes),
+        Decoded::ScatterList => answer_to_scatter_list(alloc, bytes),
     }
 }
 
@@ -90,6 +94,25 @@ fn answer_to_page(alloc: Global, bytes: &[u8]) -> Result<Answer, OutOfMemory>
             push_fault(&mut text, &DevicePage0::layout(), fault)?;
             Ok(refused(text))
         }
+    }
+}
+
+fn answer_to_scatter_list(alloc: Global, bytes: &[u8]) -> Result<Answer, OutOfMemory>
+    requires { length bytes.now < 2 ^ 32 }
+    ensures { IfOk result (λ a. IsScatterAnswer bytes.now a.status a.text) }
+{
+    let whole = whole_size(bytes);
+    if bytes.len() < whole {
+        let mut text = Text::new(alloc);
+        push_short(&mut text, whole as u64, bytes.len() as u64)?;
+        return Ok(refused(text));
+    }
+    let chained = chained_in(alloc, bytes)?;
+    let frames = chained.frames.as_slice();
+    match read_list(alloc, chained.offset, &chained.first, frames) {
+        Ok(list) => Ok(listed(scatter_list_text(alloc, &list)?)),
+        Err(SglFault::OutOfMemory) => Err(OutOfMemory),
+        Err(fault) => Ok(refused(fault_text(alloc, fault)?)),
     }
 }
 

@@ -1,4 +1,5 @@
-//! The command line: decodes one message, descriptor or page from hexadecimal, or prints a schedule.
+//! The command line: decodes one message, descriptor, page or scatter list from hexadecimal, or prints
+//! a schedule.
 #![tactic(auto)]
 
 mod answer;
@@ -6,6 +7,7 @@ mod command;
 mod decode;
 mod input;
 mod run;
+mod scatter_input;
 mod status;
 #[cfg(test)]
 mod tests;

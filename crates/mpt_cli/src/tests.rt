@@ -236,6 +236,63 @@ fn refuses_in_order(rt: HostRuntime) -> Result<(), Fail> {
     Ok(())
 }
 
+/// Three pieces that the device fills: the offset and the first area, and a frame without the zeros
+/// behind its elements.
+const FRONT: &str = "1b 00020092 0010000000000000 18000032 0000000001000000 0000000000000000";
+
+const FRAME: &str = "0000000001000000 00020012 0020000000000000 100000d3 0030000000000000";
+
+// The texts one after the other, with zeros behind them, so many bytes.
+fn joined(alloc: Global, front: &str, back: &str, zeros: u32) -> Result<String, AllocError> {
+    let mut both = String::from_str(alloc, front)?;
+    both.push_str(back)?;
+    with_zeros(alloc, both.as_str(), zeros)
+}
+
+#[test]
+fn decodes_scatter_lists(rt: HostRuntime) -> Result<(), Fail> {
+    let alloc = rt.alloc();
+    let three = joined(alloc, FRONT, FRAME, 104)?;
+    // The chain element's flags, behind two words and an element of a piece.
+    let flags = with_digits(alloc, three.as_str(), 35, "30")?;
+    let stray = joined(alloc, joined(alloc, FRONT, FRAME, 103)?.as_str(), "01", 0)?;
+    let extra = joined(alloc, three.as_str(), FRAME, 104)?;
+    let cut = joined(alloc, three.as_str(), "00", 0)?;
+    let nothing = with_zeros(alloc, "00 000000d3 ffffffffffffffff", 20)?;
+    let outward = with_zeros(alloc, "00 ffffffd7 0100000000000080", 20)?;
+    for (input, status, text) in [
+        (
+            three.as_str(),
+            Status::Ok,
+            "sgl 3 in\n0000000000001000 512\n0000000000002000 512\n0000000000003000 16\n",
+        ),
+        (nothing.as_str(), Status::Ok, "sgl 0 in\n"),
+        (
+            outward.as_str(),
+            Status::Ok,
+            "sgl 1 out\n8000000000000001 16777215\n",
+        ),
+        (flags.as_str(), Status::Refused, "sgl flags 0 1\n"),
+        (stray.as_str(), Status::Refused, "sgl stray 1\n"),
+        (FRONT, Status::Refused, "sgl missing 0\n"),
+        (extra.as_str(), Status::Refused, "sgl extra\n"),
+        ("", Status::Refused, "short need 33 have 0\n"),
+        (cut.as_str(), Status::Refused, "short need 305 have 170\n"),
+        ("0", Status::Refused, "refused line 1 hex\n"),
+    ] {
+        let (ended, written) = outcome(
+            alloc,
+            "decode sgl",
+            input.as_bytes(),
+            7,
+            (NO_CALL, NO_CALL),
+        )?;
+        assert_eq!(rt; ended, status, "{input}");
+        assert_eq!(rt; written.as_slice(), text.as_bytes(), "{input}");
+    }
+    Ok(())
+}
+
 #[test]
 fn lists_parts(rt: HostRuntime) -> Result<(), Fail> {
     let alloc = rt.alloc();

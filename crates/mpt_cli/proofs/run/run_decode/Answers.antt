@@ -1,4 +1,4 @@
-use Rattle.std.proofs.Common.{◌≡◌, ◌≤◌, length, subst, arith}
+use Rattle.std.proofs.Common.{◌≤◌, length, subst, arith}
 use Rattle.mpt_cli.specs.Answer.{IsAnswer}
 use Rattle.mpt_cli.specs.declared.run.TheConstants.{MOST_BYTES}
 use Rattle.mpt_cli.specs.Run.{Writes}
