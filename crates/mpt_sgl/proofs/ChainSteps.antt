@@ -1,5 +1,5 @@
 -- The reading of one segment after the other.
-use Rattle.std.proofs.Common.{◌≡◌, ◌≢◌, ℕ, zero, suc, ◌+◌, ◌-◌, ◌*◌, ◌<◌, ◌≤◌, inl, inr, Bool, true, false, eqb, cond, List, [], ◌∷◌, ◌++◌, length, map, drop, get_or, Option, Some, None, IfSome, refl, ap, sym, subst, ◌∙◌, append-nil, append_assoc, arith}
+use Rattle.std.proofs.Common.{◌≡◌, ℕ, suc, ◌+◌, ◌*◌, ◌<◌, ◌≤◌, inl, inr, Bool, true, eqb, cond, List, [], ◌∷◌, ◌++◌, length, drop, get_or, Option, Some, None, IfSome, refl, ap, sym, subst, ◌∙◌, append_assoc, arith}
 use Rattle.std.specs.Option.{option_or, option_map_or}
 use Rattle.std.proofs.lemmas.Bool.Decides.{nat_tests}
 use Rattle.std.proofs.lemmas.List.{drop_all, length-drop, take_all}
@@ -11,7 +11,6 @@ use Rattle.mpt_sgl.specs.declared.element.Shape.{Shape}
 use Rattle.mpt_sgl.specs.declared.fault.SglFault.{SglFault}
 use Rattle.mpt_sgl.specs.declared.fault.SglFault.TheVariants as fault
 use Rattle.mpt_sgl.specs.declared.list.Piece.{Piece}
-use Rattle.mpt_sgl.specs.Elements.{is_zero}
 use Rattle.mpt_sgl.specs.Faults.{IsFault, chain_faults, chain_pieces, empty_fault}
 use Rattle.mpt_sgl.specs.Segments.{element_count, next_shape, segment_fault, segment_pieces, unused_fault}
 

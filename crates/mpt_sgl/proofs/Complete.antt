@@ -1,6 +1,5 @@
 -- Where the areas hold pieces, no fault is found, and the pieces are told.
-use Rattle.std.proofs.Common.{◌≡◌, ◌≢◌, ℕ, zero, suc, ◌+◌, ◌-◌, ◌*◌, ◌<◌, ◌≤◌, Bool, true, false, ◌&&◌, not, eqb, ltb, leb, cond, IsTrue, List, [], ◌∷◌, ◌++◌, length, map, take, drop, Option, Some, None, refl, ap, sym, subst, ◌∙◌, arith, length-append}
-use Rattle.std.specs.Prelude.{is_none}
+use Rattle.std.proofs.Common.{◌≡◌, ◌≢◌, ℕ, zero, suc, ◌+◌, ◌-◌, ◌*◌, ◌≤◌, Bool, true, eqb, leb, cond, List, [], ◌∷◌, ◌++◌, length, map, take, drop, Option, Some, None, refl, ap, sym, subst, ◌∙◌, arith, length-append}
 use Rattle.std.specs.List.{list_all}
 use Rattle.std.specs.Option.{option_or, option_map_or}
 use Rattle.std.proofs.lemmas.Bool.Decides.{nat_tests}
@@ -8,11 +7,10 @@ use Rattle.std.proofs.lemmas.List.{length-take-le, take-append-drop, length-drop
 use Rattle.mpt_sgl.specs.declared.chained.ChainFrame.{ChainFrame}
 use Rattle.mpt_sgl.specs.declared.element.Element.{Element}
 use Rattle.mpt_sgl.specs.declared.element.Shape.{Shape}
-use Rattle.mpt_sgl.specs.declared.fault.SglFault.{SglFault}
 use Rattle.mpt_sgl.specs.declared.fault.SglFault.TheVariants as fault
 use Rattle.mpt_sgl.specs.declared.list.Piece.{Piece}
-use Rattle.mpt_sgl.specs.Areas.{area_elements, simple_run}
-use Rattle.mpt_sgl.specs.Elements.{chain_element, chain_length, chain_shape, element_at, elements_in, is_zero}
+use Rattle.mpt_sgl.specs.Areas.{simple_run}
+use Rattle.mpt_sgl.specs.Elements.{chain_element, chain_shape, element_at, elements_in, is_zero}
 use Rattle.mpt_sgl.specs.Faults.{chain_faults, chain_pieces}
 use Rattle.mpt_sgl.specs.Pieces.{is_piece}
 use Rattle.mpt_sgl.specs.Segments.{chain_fault, due_flags, next_shape, piece_of, segment_fault, segment_pieces, simple_fault, simples_fault, unused_fault}

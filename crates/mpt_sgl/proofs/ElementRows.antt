@@ -1,8 +1,7 @@
 -- Elements one after the other.
 use Rattle.std.proofs.Common.{◌≡◌, ℕ, zero, suc, ◌+◌, ◌-◌, ◌*◌, ◌<◌, ◌≤◌, List, [], ◌∷◌, ◌++◌, length, take, drop, refl, ap, sym, ◌∙◌, arith}
-use Rattle.std.proofs.lemmas.List.{drop-drop, drop-take, take-take}
+use Rattle.std.proofs.lemmas.List.{drop-drop, drop-take}
 use Rattle.mpi_layout.proofs.Writing.{field_front}
-use Rattle.mpt_sgl.specs.declared.element.Element.{Element}
 use Rattle.mpt_sgl.specs.Elements.{element_at, elements_in}
 
 pub length-elements_in : (n : ℕ) (bytes : List ℕ) → length (elements_in n bytes) ≡ n

@@ -1,5 +1,5 @@
 -- The bytes that spell a list are those in which no fault is found, and it is the list that they tell.
-use Rattle.std.proofs.Common.{◌≡◌, ◌≢◌, ℕ, zero, suc, ◌+◌, ◌-◌, ◌*◌, ◌<◌, ◌≤◌, ◌⊎◌, inl, inr, Bool, true, false, ◌&&◌, ◌||◌, not, eqb, ltb, cond, IsTrue, List, [], ◌∷◌, ◌++◌, length, take, drop, replicate, Option, Some, None, refl, ap, sym, subst, ◌∙◌, arith, append-nil}
+use Rattle.std.proofs.Common.{◌≡◌, ◌≢◌, ℕ, suc, ◌≤◌, inl, inr, Bool, true, false, ◌&&◌, ◌||◌, not, eqb, ltb, cond, IsTrue, List, [], ◌∷◌, ◌++◌, length, drop, replicate, Option, Some, None, refl, ap, sym, subst, ◌∙◌, arith, append-nil}
 use Rattle.std.specs.List.{flat_map, list_all}
 use Rattle.std.specs.Option.{option_or}
 use Rattle.std.proofs.lemmas.Bool.Decides.{nat_tests, eqb_tells}
@@ -11,7 +11,7 @@ use Rattle.mpt_sgl.specs.declared.fault.SglFault.{SglFault}
 use Rattle.mpt_sgl.specs.declared.fault.SglFault.TheVariants as fault
 use Rattle.mpt_sgl.specs.declared.list.Piece.{Piece}
 use Rattle.mpt_sgl.specs.declared.list.List.{List as ScatterList}
-use Rattle.mpt_sgl.specs.Areas.{area_elements, simple_run}
+use Rattle.mpt_sgl.specs.Areas.{simple_run}
 use Rattle.mpt_sgl.specs.Elements.{element_at, elements_in, empty_element, is_to_device, is_zero, simple_element, unused_element}
 use Rattle.mpt_sgl.specs.Faults.{IsFault, chain_faults, chain_pieces, empty_fault, first_fault, first_shape, is_empty_lead, pieces_told}
 use Rattle.mpt_sgl.specs.Pieces.{IsScatterList, frame_count, is_piece}
@@ -21,8 +21,8 @@ use Rattle.mpt_sgl.proofs.Complete.{complete_from}
 use Rattle.mpt_sgl.proofs.ElementRows.{elements_in-suc, elements_in-zero}
 use Rattle.mpt_sgl.proofs.FrameCounts.{fit_count, frames_fit, held_fits}
 use Rattle.mpt_sgl.specs.Held.{Begins, FramesFit, Held}
-use Rattle.mpt_sgl.proofs.Rows.{RowFrom, begins_row, held_row, row_begins, row_held}
-use Rattle.mpt_sgl.proofs.Shapes.{IsShape, chained_shape, chains, ends, last_shape, shape_for, shape_for-chained, shape_for-last}
+use Rattle.mpt_sgl.proofs.Rows.{begins_row, held_row, row_begins, row_held}
+use Rattle.mpt_sgl.proofs.Shapes.{IsShape, chained_shape, chains, ends, last_shape, shape_for, shape_for-chained}
 use Rattle.mpt_sgl.proofs.Sound.{or_none, sound_from, sound_unused}
 use Rattle.mpt_sgl.proofs.ZeroBytes.{and_true}
 

@@ -1,7 +1,8 @@
 -- For given addresses a list has one spelling.
-use Rattle.std.proofs.Common.{◌≡◌, ℕ, zero, suc, ◌+◌, ◌*◌, ◌<◌, ◌≤◌, Bool, true, false, ◌&&◌, eqb, ltb, IsTrue, List, [], ◌∷◌, ◌++◌, length, map, take, drop, replicate, refl, ap, sym, ◌∙◌, arith, length-append}
+use Rattle.std.proofs.Common.{◌≡◌, ℕ, zero, suc, ◌+◌, ◌*◌, ◌<◌, ◌≤◌, Bool, true, eqb, ltb, List, [], ◌∷◌, ◌++◌, length, take, drop, get_or, replicate, refl, ap, sym, ◌∙◌, arith, length-append}
 use Rattle.std.specs.List.{flat_map, list_all}
 use Rattle.std.proofs.lemmas.Bool.Decides.{nat_tests}
+use Rattle.std.proofs.lemmas.List.Folds.{list_all-append}
 use Rattle.std.proofs.lemmas.List.{drop-drop, length-drop, take-append-drop}
 use Rattle.std.proofs.Math.Seq.{take-add}
 use Rattle.byteorder.specs.Endian.{little_from}
@@ -13,13 +14,28 @@ use Rattle.mpt_sgl.specs.declared.chained.Chained.{Chained}
 use Rattle.mpt_sgl.specs.declared.element.Element.{Element}
 use Rattle.mpt_sgl.specs.declared.list.List.{List as ScatterList}
 use Rattle.mpt_sgl.specs.Elements.{element_at, elements_in, is_zero, unused_element}
-use Rattle.mpt_sgl.specs.Spelling.{IsSized, Spells, addresses, elements, is_area, is_clear, row_of}
+use Rattle.mpt_sgl.specs.Spelling.{IsSized, Spells, addresses, are_bytes, are_sized, elements, is_area, row_of}
 use Rattle.mpt_sgl.proofs.Complete.{append_split}
 use Rattle.mpt_sgl.proofs.ElementRows.{elements_in-suc, length-elements_in}
 use Rattle.mpt_sgl.proofs.ZeroBytes.{and_true}
 
 abbrev is_byte : ℕ → Bool
 is_byte byte = ltb byte 256
+
+-- an array's numbers are bytes
+pub all_bytes : (bytes : List ℕ) → ((i : ℕ) → get_or bytes i 0 < 256) → are_bytes bytes ≡ true
+all_bytes [] fit = refl
+all_bytes (b ∷ bytes) fit = rw (low b (fit 0), all_bytes bytes (λ i. fit (suc i))) refl where
+  low : (b : ℕ) → b < 256 → ltb b 256 ≡ true
+  low b less = grind (arith, nat_tests)
+
+pub sized_area : (size : ℕ) (bytes : List ℕ) → length bytes ≡ size → are_bytes bytes ≡ true → is_area size bytes ≡ true
+sized_area size bytes long all = rw (test (length bytes) size long, all) refl where
+  test : (a b : ℕ) → a ≡ b → eqb a b ≡ true
+  test a b e = grind (arith, nat_tests)
+
+pub sized_more : (frames after : List ChainFrame) (frame : ChainFrame) → after ≡ frames ++ frame ∷ [] → are_sized frames ≡ true → is_area 128 frame.bytes ≡ true → are_sized after ≡ true
+sized_more frames after frame more sized here = ap are_sized more ∙ list_all-append (λ (f : ChainFrame). is_area 128 f.bytes) frames (frame ∷ []) ∙ rw (sized, here) refl
 
 -- so many bytes, at least
 record Bytes (n : ℕ) (bytes : List ℕ) : Type 0 where
@@ -124,9 +140,6 @@ frame_elements frames = flat_map (λ (frame : ChainFrame). elements_in 10 frame.
 
 abbrev are_clear : List ChainFrame → Bool
 are_clear frames = list_all (λ (frame : ChainFrame). is_zero (drop 120 frame.bytes)) frames
-
-abbrev are_sized : List ChainFrame → Bool
-are_sized frames = list_all (λ (frame : ChainFrame). is_area 128 frame.bytes) frames
 
 -- frames are told by their addresses and elements
 same_frames : (xs ys : List ChainFrame) → addresses xs ≡ addresses ys → frame_elements xs ≡ frame_elements ys → are_sized xs ≡ true → are_sized ys ≡ true → are_clear xs ≡ true → are_clear ys ≡ true → xs ≡ ys

@@ -1,12 +1,11 @@
 -- The row of elements, cut where an area ends.
-use Rattle.std.proofs.Common.{◌≡◌, ◌≢◌, ℕ, zero, suc, ◌+◌, ◌-◌, ◌*◌, ◌%◌, ◌<◌, ◌≤◌, Bool, true, false, ◌&&◌, eqb, ltb, cond, List, [], ◌∷◌, ◌++◌, length, take, drop, get_or, refl, ap, sym, ◌∙◌, arith}
+use Rattle.std.proofs.Common.{◌≡◌, ◌≢◌, ℕ, zero, suc, ◌+◌, ◌-◌, ◌*◌, ◌%◌, ◌≤◌, Bool, true, false, ◌&&◌, eqb, ltb, List, [], ◌∷◌, ◌++◌, length, take, drop, get_or, refl, arith}
 use Rattle.std.proofs.lemmas.Bool.Decides.{nat_tests}
 use Rattle.std.proofs.lemmas.List.{length-take-le}
-use Rattle.mpt_sgl.specs.declared.element.Element.{Element}
 use Rattle.mpt_sgl.specs.declared.list.Piece.{Piece}
 use Rattle.mpt_sgl.specs.Areas.{simple_run}
-use Rattle.mpt_sgl.specs.Elements.{chain_element, simple_element}
-use Rattle.mpt_sgl.specs.Spelling.{is_chained, piece_flags, row_from}
+use Rattle.mpt_sgl.specs.Elements.{chain_element}
+use Rattle.mpt_sgl.specs.Spelling.{is_chained, row_from}
 
 -- no chain element inside an area, nor where at most one piece is behind
 not_chained : (number room j behind : ℕ) → number + room ≡ 9 * j + 1 → 2 ≤ room → room ≤ 9 → is_chained number behind ≡ false

@@ -1,11 +1,11 @@
 -- The row of elements and the areas that hold it.
-use Rattle.std.proofs.Common.{◌≡◌, ◌≢◌, ℕ, zero, suc, ◌+◌, ◌-◌, ◌*◌, ◌<◌, ◌≤◌, Bool, true, false, ◌&&◌, List, [], ◌∷◌, ◌++◌, length, map, take, drop, replicate, Option, Some, None, refl, ap, sym, subst, ◌∙◌, arith, length-append, append_assoc, append-nil}
+use Rattle.std.proofs.Common.{◌≡◌, ℕ, suc, ◌+◌, ◌-◌, ◌*◌, ◌≤◌, Bool, true, ◌&&◌, List, [], ◌∷◌, ◌++◌, length, take, drop, replicate, ap, sym, subst, ◌∙◌, arith, length-append, append_assoc, append-nil}
 use Rattle.std.specs.List.{flat_map, list_all}
 use Rattle.std.proofs.lemmas.List.{drop-drop, length-take-le, length-drop}
 use Rattle.mpt_sgl.specs.declared.chained.ChainFrame.{ChainFrame}
 use Rattle.mpt_sgl.specs.declared.element.Element.{Element}
 use Rattle.mpt_sgl.specs.declared.list.Piece.{Piece}
-use Rattle.mpt_sgl.specs.Areas.{area_elements, simple_run}
+use Rattle.mpt_sgl.specs.Areas.{simple_run}
 use Rattle.mpt_sgl.specs.Elements.{chain_element, elements_in, is_zero, unused_element}
 use Rattle.mpt_sgl.specs.Spelling.{addresses, row_from}
 use Rattle.mpt_sgl.proofs.Complete.{append_split}

@@ -1,23 +1,22 @@
 -- Where no fault is found, the areas hold the pieces that they tell.
-use Rattle.std.proofs.Common.{◌≡◌, ◌≢◌, ℕ, zero, suc, ◌+◌, ◌-◌, ◌*◌, ◌<◌, ◌≤◌, inl, inr, Bool, true, false, not, eqb, ltb, cond, IsTrue, List, [], ◌∷◌, ◌++◌, length, map, take, drop, Option, Some, None, refl, ap, sym, subst, ◌∙◌, arith, length-append, add-one}
+use Rattle.std.proofs.Common.{◌≡◌, ℕ, suc, ◌+◌, ◌-◌, ◌*◌, inl, inr, Bool, true, false, eqb, cond, List, [], ◌∷◌, ◌++◌, length, map, take, drop, Option, Some, None, refl, ap, sym, subst, ◌∙◌, arith, length-append}
 use Rattle.std.specs.Prelude.{is_none}
 use Rattle.std.specs.Option.{option_or, option_map_or}
-use Rattle.std.proofs.lemmas.Bool.Decides.{nat_tests, eqb_tells}
+use Rattle.std.proofs.lemmas.Bool.Decides.{eqb_tells}
 use Rattle.std.proofs.lemmas.List.{length-map}
 use Rattle.std.proofs.Math.Seq.{drop-append_seam, take-append_seam}
 use Rattle.mpt_sgl.specs.declared.chained.ChainFrame.{ChainFrame}
 use Rattle.mpt_sgl.specs.declared.element.Element.{Element}
 use Rattle.mpt_sgl.specs.declared.element.Shape.{Shape}
-use Rattle.mpt_sgl.specs.declared.fault.SglFault.{SglFault}
 use Rattle.mpt_sgl.specs.declared.fault.SglFault.TheVariants as fault
 use Rattle.mpt_sgl.specs.declared.list.Piece.{Piece}
 use Rattle.mpt_sgl.specs.Areas.{area_elements, simple_run}
 use Rattle.mpt_sgl.specs.Elements.{chain_element, chain_length, chain_shape, element_at, elements_in, is_zero}
 use Rattle.mpt_sgl.specs.Faults.{chain_faults, chain_pieces}
-use Rattle.mpt_sgl.specs.Segments.{chain_fault, due_flags, next_shape, piece_of, segment_fault, segment_pieces, simple_fault, simples_fault, unused_fault}
+use Rattle.mpt_sgl.specs.Segments.{chain_fault, due_flags, next_shape, piece_of, segment_fault, simple_fault, simples_fault, unused_fault}
 use Rattle.mpt_sgl.proofs.ElementRows.{elements_in-more, length-elements_in}
 use Rattle.mpt_sgl.specs.Held.{Begins, Held}
-use Rattle.mpt_sgl.proofs.Shapes.{IsShape, IsTold, IsTold-length, IsTold-shape, chain_shape-tells, chained_shape, chains, ends, last_shape, shape_for, shape_for-chained, shape_for-last}
+use Rattle.mpt_sgl.proofs.Shapes.{IsShape, IsTold-length, IsTold-shape, chain_shape-tells, chained_shape, chains, ends, last_shape, shape_for, shape_for-chained, shape_for-last}
 
 pub or_none : {X : Type 0} (a b : Option X) → option_or a b ≡ None → (a ≡ None) × (b ≡ None)
 or_none None b e = (refl, e)

@@ -1,5 +1,5 @@
 -- Elements, by the numbers in their 12 bytes.
-use Rattle.std.specs.Prelude.{◌≡◌, ℕ, zero, suc, ◌+◌, ◌*◌, ◌/◌, ◌%◌, min, Bool, true, false, not, ◌==◌, ◌&&◌, nat_lt, nat_le, bit_and, if◌then◌else◌, codes, List, [], ◌∷◌, drop, Option, Some, None}
+use Rattle.std.specs.Prelude.{ℕ, zero, suc, ◌+◌, ◌*◌, ◌/◌, ◌%◌, Bool, true, false, not, ◌==◌, nat_lt, bit_and, if◌then◌else◌, codes, List, [], ◌∷◌, drop, Option, Some, None}
 use Rattle.std.specs.List.{list_all}
 use Rattle.mpi_layout.specs.Rows.{Shape as Layout, field, number}
 use Rattle.mpi_layout.specs.declared.row.Rule.TheVariants.{Any}

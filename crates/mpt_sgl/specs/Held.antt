@@ -1,5 +1,5 @@
 -- The areas of a list, one after the other.
-use Rattle.std.specs.Prelude.{◌≡◌, ℕ, ◌+◌, ◌-◌, ◌*◌, ◌≤◌, Bool, true, List, [], ◌∷◌, length, drop, Option, Some, None}
+use Rattle.std.specs.Prelude.{◌≡◌, ℕ, ◌+◌, ◌-◌, ◌*◌, ◌≤◌, Bool, true, List, [], ◌∷◌, length, drop, Some, None}
 use Rattle.mpt_sgl.specs.declared.chained.ChainFrame.{ChainFrame}
 use Rattle.mpt_sgl.specs.declared.element.Element.{Element}
 use Rattle.mpt_sgl.specs.declared.list.Piece.{Piece}

@@ -2,7 +2,6 @@
 use Rattle.std.specs.Prelude.{◌≡◌, ℕ, ◌+◌, ◌-◌, ◌/◌, ◌≤◌, IsTrue, Bool, false, ◌&&◌, nat_lt, nat_le, if◌then◌else◌, List, [], length}
 use Rattle.std.specs.List.{list_all}
 use Rattle.mpt_sgl.specs.declared.list.Piece.{Piece}
-use Rattle.mpt_sgl.specs.declared.list.List.{List as ScatterList}
 
 -- a piece's length is one that an element can have, and not 0
 abbrev pub is_piece : Piece → Bool

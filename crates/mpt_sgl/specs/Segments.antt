@@ -1,5 +1,5 @@
 -- What is wrong with one segment: the first area, or a frame.
-use Rattle.std.specs.Prelude.{ℕ, zero, suc, ◌+◌, ◌*◌, Bool, not, ◌==◌, if◌then◌else◌, List, [], ◌∷◌, ◌++◌, length, map, drop, Option, Some, None, is_none}
+use Rattle.std.specs.Prelude.{ℕ, suc, ◌+◌, ◌*◌, Bool, not, ◌==◌, if◌then◌else◌, List, [], ◌∷◌, length, map, drop, Option, Some, None, is_none}
 use Rattle.std.specs.Option.{option_or}
 use Rattle.mpt_sgl.specs.declared.element.Element.{Element}
 use Rattle.mpt_sgl.specs.declared.element.Shape.{Shape}

@@ -1,5 +1,5 @@
 -- The bytes that spell a scatter list: one row of elements through the first area and all frames.
-use Rattle.std.specs.Prelude.{◌≡◌, ℕ, zero, suc, ◌+◌, ◌%◌, IsTrue, Bool, ◌==◌, ◌&&◌, nat_lt, if◌then◌else◌, List, [], ◌∷◌, ◌++◌, length, map, drop, replicate, slice_index}
+use Rattle.std.specs.Prelude.{◌≡◌, ℕ, suc, ◌%◌, IsTrue, Bool, ◌==◌, ◌&&◌, nat_lt, if◌then◌else◌, List, [], ◌∷◌, ◌++◌, length, map, drop, replicate, slice_index}
 use Rattle.std.specs.List.{flat_map, list_all}
 use Rattle.mpt_sgl.specs.declared.chained.ChainFrame.{ChainFrame}
 use Rattle.mpt_sgl.specs.declared.chained.Chained.{Chained}
@@ -49,11 +49,19 @@ pub record Spells (list : ScatterList) (c : Chained) : Type 0 where
   pub row : (unused : ℕ) × (elements c.first c.frames ≡ row_of list.to_device list.pieces (addresses c.frames) ++ replicate unused unused_element)
   pub clear : IsTrue (is_clear c.first c.frames)
 
--- so many numbers, each of them a byte's
+-- each of the numbers is a byte's
+abbrev pub are_bytes : List ℕ → Bool
+are_bytes bytes = list_all (λ byte. nat_lt byte 256) bytes
+
+-- so many bytes
 abbrev pub is_area : ℕ → List ℕ → Bool
-is_area size bytes = (length bytes == size) && list_all (λ byte. nat_lt byte 256) bytes
+is_area size bytes = (length bytes == size) && are_bytes bytes
+
+-- each of the frames has 128 bytes
+abbrev pub are_sized : List ChainFrame → Bool
+are_sized frames = list_all (λ (frame : ChainFrame). is_area 128 frame.bytes) frames
 
 -- the first area and the frames are of their sizes, as the code's arrays are
 pub record IsSized (c : Chained) : Type 0 where
   pub first : IsTrue (is_area 32 c.first)
-  pub frames : IsTrue (list_all (λ (frame : ChainFrame). is_area 128 frame.bytes) c.frames)
+  pub frames : IsTrue (are_sized c.frames)

@@ -6,6 +6,7 @@ ghost use Rattle.mpt_sgl.specs.Areas.{area_elements, simple_run};
 ghost use Rattle.mpt_sgl.specs.Elements.{chain_shape, element_at, elements_in, is_zero};
 ghost use Rattle.mpt_sgl.specs.Faults.{IsFault};
 ghost use Rattle.mpt_sgl.specs.Pieces.{is_piece};
+ghost use Rattle.mpt_sgl.specs.Spelling.{are_bytes};
 ghost use Rattle.mpt_sgl.specs.Segments.{chain_fault, element_count, next_shape, piece_of, segment_fault, segment_pieces, simples_fault, unused_fault};
 
 use crate::element::{ELEMENT_BYTES, Element, Shape};
@@ -40,6 +41,7 @@ pub(crate) fn write_area(
     requires few { length pieces.now ≤ 256 }
     ensures elements { elements_in (length (area_elements to_device room pieces.now next)) out.new ≡ area_elements to_device room pieces.now next }
     ensures rest { drop (12 * length (area_elements to_device room pieces.now next)) out.new ≡ drop (12 * length (area_elements to_device room pieces.now next)) out.old }
+    ensures bytes { IsTrue (are_bytes out.new) }
 {
     match next {
         None => write_simple(out, pieces, to_device, LAST),

@@ -1,8 +1,9 @@
 //! Elements, and the 12 bytes of each.
-ghost use Rattle.std.specs.Prelude.{◌≡◌, ◌≤◌, ◌<◌, ◌^◌, IfSome, drop, length, length as count};
+ghost use Rattle.std.specs.Prelude.{◌≡◌, ◌≤◌, ◌<◌, ◌^◌, IfSome, IsTrue, drop, length, length as count};
 ghost use Rattle.mpi_layout.specs.Rows.{Stands};
 ghost use Rattle.mpt_sgl.specs.Elements.{chain_element, chain_shape, element_at, element_layout, is_to_device, simple_element};
 ghost use Rattle.mpt_sgl.specs.Segments.{element_count};
+ghost use Rattle.mpt_sgl.specs.Spelling.{are_bytes};
 
 use crate::list::Piece;
 use mpi_layout::{Layout, Row, Rule, low, number, read, write};
@@ -105,6 +106,7 @@ impl Element {
         requires short { self.now.length < 2 ^ 24 }
         ensures element { element_at out.new ≡ self.now }
         ensures rest { drop 12 out.new ≡ drop 12 out.old }
+        ensures bytes { IsTrue (are_bytes out.new) }
     {
         put(self.length, self.flags, self.address, out);
     }

@@ -1,9 +1,10 @@
 //! How a scatter list is written.
 ghost use Rattle.std.specs.Prelude.{◌≡◌, ◌≤◌, ◌<◌, ◌+◌, ◌*◌, ◌==◌, IsTrue, IfOk, length, slice_get, if◌then◌else◌};
 ghost use Rattle.std.specs.List.{list_all};
+ghost use Rattle.mpt_sgl.specs.declared.chained.Chained.{Chained};
 ghost use Rattle.mpt_sgl.specs.Held.{FramesHold};
 ghost use Rattle.mpt_sgl.specs.Pieces.{IsScatterList, frame_count, is_piece};
-ghost use Rattle.mpt_sgl.specs.Spelling.{Spells, addresses};
+ghost use Rattle.mpt_sgl.specs.Spelling.{IsSized, Spells, addresses, are_sized};
 
 use crate::OutOfMemory;
 use crate::area::write_area;
@@ -21,8 +22,8 @@ pub fn frames_needed(n: usize) -> usize
     if n < 3 { 0 } else { (n - 3) / 9 + 1 }
 }
 
-/// Writes the list, with its frames at these addresses, as many as `frames_needed` says. The pieces
-/// and the direction are a scatter list's.
+/// Writes the list, with its frames at these addresses, as many as `frames_needed` says: the only
+/// bytes that spell it so. The pieces and the direction are a scatter list's.
 ///
 /// # Errors
 /// Only where memory is wanting.
@@ -36,6 +37,8 @@ pub fn write_list(
     requires frames { length chains.now ≡ frame_count (length pieces.now) }
     ensures spelled { IfOk result (λ c. Spells (record { to_device = to_device; pieces = pieces.now }) c) }
     ensures addresses { IfOk result (λ c. addresses c.frames ≡ chains.now) }
+    ensures only { (c : Chained) → IsSized c → addresses c.frames ≡ chains.now → Spells (record { to_device = to_device; pieces = pieces.now }) c
+        → IfOk result (λ written. written ≡ c) }
 {
     let mut first = [0; 32];
     if pieces.is_empty() {
@@ -68,6 +71,7 @@ fn write_frames(
     requires least { 0 < length chains.now → 9 * length chains.now ≤ length pieces.now + 7 }
     ensures held { IfOk result (λ frames. FramesHold to_device pieces.now frames.items) }
     ensures addresses { IfOk result (λ frames. addresses frames.items ≡ chains.now) }
+    ensures sized { IfOk result (λ frames. IsTrue (are_sized frames.items)) }
 {
     let mut frames = Vec::new(alloc);
     for (i, address) in chains.iter().enumerate() {

@@ -1,4 +1,4 @@
-use Rattle.std.proofs.Common.{◌≡◌, ◌*◌, List, [], ◌∷◌, ◌++◌, Some, None, inr, cond, Bool, true, not, ap, sym, ◌∙◌, arith}
+use Rattle.std.proofs.Common.{◌*◌, List, [], ◌∷◌, ◌++◌, inr, cond, not, ap, sym, ◌∙◌}
 use Rattle.std.proofs.lemmas.List.{take_rest}
 use Rattle.mpt_sgl.specs.Elements.{element_at}
 use Rattle.mpt_sgl.specs.Segments.{piece_of}

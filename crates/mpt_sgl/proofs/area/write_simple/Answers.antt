@@ -1,6 +1,5 @@
-use Rattle.std.proofs.Common.{◌≡◌, ◌*◌, ◌+◌, ◌≤◌, length, eqb, cond, subst, refl, ap, sym, ◌∙◌, arith}
-use Rattle.mpt_sgl.specs.declared.element.Element.{Element}
-use Rattle.mpt_sgl.proofs.WriteSteps.{ElementPut, due_inner, due_last, element_put, written_all, written_more, written_none}
+use Rattle.std.proofs.Common.{◌≡◌, ◌*◌, ◌+◌, length, eqb, cond, ◌∙◌, arith}
+use Rattle.mpt_sgl.proofs.WriteSteps.{due_inner, due_last, element_put, written_all, written_more, written_none}
 use Rattle.mpt_sgl.proofs.area.write_simple.Goals as goal
 use Rattle.mpt_sgl.proofs.area.write_simple.Goals.{then-place-pieces, else-place-pieces}
 

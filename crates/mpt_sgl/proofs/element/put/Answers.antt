@@ -1,4 +1,4 @@
-use Rattle.std.proofs.Common.{◌≡◌, ◌≤◌, lit<, lit≤, ap, drop, length, subst, sym, arith, ◌∙◌}
+use Rattle.std.proofs.Common.{◌≡◌, lit<, lit≤, ap, drop, subst, arith}
 use Rattle.mpi_layout.specs.Rows.{Shape as Layout}
 use Rattle.mpt_sgl.specs.Elements.{element_layout}
 use Rattle.mpt_sgl.proofs.ElementBytes.{element_fits, written_element}

@@ -1,4 +1,4 @@
-use Rattle.std.proofs.Common.{◌≡◌, eqb, cond, true, false, Some, None, length, ap, sym, ◌∙◌, arith}
+use Rattle.std.proofs.Common.{cond, Some, None, length, ap, sym, ◌∙◌, arith}
 use Rattle.std.proofs.lemmas.Result.{err_from_is_err_and}
 use Rattle.mpt_sgl.specs.declared.fault.SglFault.TheVariants as fault
 use Rattle.mpt_sgl.specs.Segments.{unused_fault}

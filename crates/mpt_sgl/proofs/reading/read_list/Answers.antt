@@ -1,4 +1,4 @@
-use Rattle.std.proofs.Common.{◌≡◌, ◌<◌, ◌≤◌, ℕ, inl, inr, List, [], Bool, cond, ltb, true, false, Option, Some, None, refl, length, ap, sym, ◌∙◌, subst, IsTrue, arith}
+use Rattle.std.proofs.Common.{◌≡◌, ◌<◌, ◌≤◌, ℕ, inr, List, [], cond, ltb, true, false, Option, Some, None, refl, length, ap, sym, ◌∙◌, arith}
 use Rattle.std.specs.List.{list_all}
 use Rattle.std.specs.Option.{option_or}
 use Rattle.std.proofs.lemmas.Result.{err_from_is_err_and}
@@ -6,12 +6,10 @@ use Rattle.std.proofs.lemmas.Bool.Decides.{nat_tests}
 use Rattle.mpt_sgl.specs.declared.chained.Chained.{Chained}
 use Rattle.mpt_sgl.specs.declared.fault.SglFault.{SglFault}
 use Rattle.mpt_sgl.specs.declared.fault.SglFault.TheVariants as fault
-use Rattle.mpt_sgl.specs.declared.list.Piece.{Piece}
-use Rattle.mpt_sgl.specs.declared.list.List.{List as ScatterList}
 use Rattle.mpt_sgl.specs.declared.chained.ChainFrame.{ChainFrame}
 use Rattle.mpt_sgl.specs.Faults.{chain_pieces}
 use Rattle.mpt_sgl.specs.Pieces.{is_piece}
-use Rattle.mpt_sgl.proofs.ListsTold.{first_of_empty, first_of_offset, first_of_some, spells_none, spells_told, told_spells}
+use Rattle.mpt_sgl.proofs.ListsTold.{first_of_empty, first_of_some, spells_none, spells_told, told_spells}
 use Rattle.mpt_sgl.proofs.ChainSteps.{fault_moves}
 use Rattle.mpt_sgl.proofs.reading.read_list.Goals as goal
 

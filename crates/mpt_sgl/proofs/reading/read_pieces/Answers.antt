@@ -1,4 +1,4 @@
-use Rattle.std.proofs.Common.{◌≡◌, ◌+◌, ◌++◌, drop, inr, Some, None, refl, length, ap, sym, ◌∙◌, arith}
+use Rattle.std.proofs.Common.{◌+◌, ◌++◌, drop, inr, refl, ap, sym, ◌∙◌, arith}
 use Rattle.std.proofs.lemmas.Result.{err_from_is_err_and}
 use Rattle.mpt_sgl.specs.Faults.{chain_faults, chain_pieces}
 use Rattle.mpt_sgl.proofs.ChainSteps.{fault_moves, frames_left_over, last_pieces, last_segment, next_pieces, next_segment, none_when, room_in, segment_fails}
