@@ -1,5 +1,4 @@
 pub mod Commands
-pub mod Handshakes
 pub mod Posts
 pub mod Returns
 pub mod Resets
