@@ -1,0 +1,6 @@
+pub mod Commands
+pub mod Posts
+pub mod Returns
+pub mod Resets
+pub mod DoorTurns
+pub mod Inputs

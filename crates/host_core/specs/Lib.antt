@@ -1,0 +1,6 @@
+-- What the host's contracts say.
+pub mod Driver
+pub mod Faults
+pub mod Posts
+pub mod Places
+pub mod Resets
