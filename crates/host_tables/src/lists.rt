@@ -1,5 +1,5 @@
 //! The lists of a host that grow.
-ghost use Rattle.std.specs.Prelude.{◌≡◌, ◌≤◌, ◌<◌, ◌-◌, ◌++◌, ◌∷◌, ◌||◌, [], OnOk, OnErr, drop, length, nat_lt, not, option_copied, option_to_list, slice_get};
+ghost use Rattle.std.specs.Prelude.{◌≡◌, ◌≤◌, ◌<◌, ◌-◌, ◌++◌, ◌∷◌, ◌||◌, [], OnOk, OnErr, drop, length, nat_lt, not, option_copied, option_to_list, slice_get, true, IfSome};
 ghost use Rattle.std.specs.List.{filter, list_any};
 ghost use Rattle.mpt_messages.specs.HostFrames.{IsAsk};
 ghost use Rattle.mpt_rules.specs.Host.Posts.{frame_asked};
@@ -7,6 +7,7 @@ ghost use Rattle.mpt_rules.specs.Host.Removal.{is_page_of, without_page};
 ghost use Rattle.mpt_rules.specs.Host.Resets.{is_no_post};
 ghost use Rattle.mpt_rules.specs.World.Places.{is_posted_as};
 ghost use Rattle.host_tables.specs.Lists.{Lists};
+ghost use Rattle.host_tables.specs.Slots.{is_internal};
 
 use mpt_messages::{HostAsk, host_frame};
 use mpt_rules::{OutOfMemory, Request};
@@ -29,13 +30,16 @@ pub struct HostLists {
 }
 
 impl Model for HostLists {
+    ghost use Rattle.std.specs.Prelude.{◌≡◌, true};
+    ghost use Rattle.std.specs.List.{list_all};
     ghost use Rattle.host_tables.specs.Lists.{HasRoom, Lists};
+    ghost use Rattle.host_tables.specs.Slots.{is_internal};
 
     ghost Value = { Lists };
 
     ghost view = { λ l. record { down = l.down.items; told = l.told.items; high = l.high.items; internal = l.internal.items; room = l.room } };
 
-    ghost invariant = { λ l. HasRoom l.down l.room × HasRoom l.told l.room × HasRoom l.high l.room × HasRoom l.internal l.room };
+    ghost invariant = { λ l. HasRoom l.down l.room × HasRoom l.told l.room × HasRoom l.high l.room × HasRoom l.internal l.room × (list_all is_internal l.internal.items ≡ true) };
 }
 
 impl HostLists {
@@ -57,6 +61,7 @@ impl HostLists {
     pub fn make_room(&mut self, count: usize) -> Result<(), OutOfMemory>
         ensures ok { OnOk result (count ≤ self.new.room) }
         ensures full { OnErr result (self.old.room < count) }
+        ensures kept { self.old.room ≤ self.new.room }
         ensures down { self.new.down ≡ self.old.down }
         ensures told { self.new.told ≡ self.old.told }
         ensures high { self.new.high ≡ self.old.high }
@@ -117,7 +122,8 @@ impl HostLists {
 
     /// A request of the internal class waits, after the others.
     pub fn push_internal(&mut self, request: Request)
-        requires { 1 ≤ self.old.room }
+        requires room { 1 ≤ self.old.room }
+        requires class { is_internal request ≡ true }
         ensures { self.new ≡ record self.old { internal = self.old.internal ++ request ∷ []; room = self.old.room - 1 } }
     {
         self.room -= 1;
@@ -159,6 +165,7 @@ impl HostLists {
     /// Takes the request of the internal class that waits first. None exactly where there is none.
     pub fn pop_internal(&mut self) -> Option<Request>
         ensures first { self.old.internal ≡ option_to_list result ++ self.new.internal }
+        ensures class { IfSome result (λ r. is_internal r ≡ true) }
         ensures rest { self.new ≡ record self.old { internal = drop 1 self.old.internal } }
     {
         self.internal.pop_front()

@@ -75,9 +75,10 @@ impl<V: Drop> NumberMap<V> {
         self.newest = Some((n, value));
     }
 
-    /// Takes a number out.
+    /// Takes a number out. Where there was room there is.
     pub fn remove(&mut self, n: u32)
-        ensures { self.new.map ≡ map.remove self.old.map n }
+        ensures map { self.new.map ≡ map.remove self.old.map n }
+        ensures room { self.old.has_room ≡ true → self.new.has_room ≡ true }
     {
         self.settled.remove(&n);
         let newest = self.newest.take();
@@ -107,9 +108,9 @@ impl<V: Drop> NumberMap<V> {
         self.settled.len()
     }
 
-    /// Takes all numbers out.
+    /// Takes all numbers out. There is room for one.
     pub fn clear(&mut self)
-        ensures { self.new.map ≡ map.empty }
+        ensures { self.new ≡ record { map = map.empty; has_room = true } }
     {
         self.settled.clear();
         self.newest = None;

@@ -1,0 +1,4 @@
+-- What the host's contracts say.
+pub mod Driver
+pub mod Faults
+pub mod Posts

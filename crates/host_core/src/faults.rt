@@ -1,0 +1,58 @@
+//! Why a call of the host is refused.
+use mpt_rules::{OutOfMemory, Why};
+use mpt_trace::Up;
+
+/// Why a call of the host is refused.
+#[derive(Clone, Copy, Debug, PartialEq, Eq)]
+pub enum HostFault {
+    /// The submission's number was used before.
+    NumberUsed,
+    /// The controller isn't operational.
+    NotOperational,
+    /// No disk of the address is ready.
+    NoDevice,
+    /// The command doesn't fit: its length is too great or isn't the one that its CDB names.
+    BadLength,
+    /// All identifiers of the class are in use.
+    NoIdentifier,
+    /// No submission of the number is open.
+    NotOpen,
+    /// An abort of the number is open.
+    AbortOpen,
+    /// The host was started before.
+    AlreadyStarted,
+    /// The host wasn't started.
+    NotStarted,
+    /// A reset is on its way.
+    AlreadyResetting,
+    /// There was no memory left.
+    OutOfMemory,
+}
+
+/// Why an item that came up isn't taken. It is handed back, and nothing has changed.
+#[derive(Drop)]
+pub enum TakeFault {
+    /// There was no memory left.
+    NoRoom {
+        /// The item.
+        item: Up,
+    },
+    /// The item can't come.
+    Strange {
+        /// The item.
+        item: Up,
+        /// The first cause that holds.
+        why: Why,
+    },
+}
+
+impl From<OutOfMemory> for HostFault {
+    ghost use Rattle.std.specs.Prelude.{◌≡◌};
+    ghost use Rattle.host_core.specs.declared.faults.HostFault.TheVariants as fault;
+
+    ghost from_gives = { λ _ e. e ≡ fault.OutOfMemory };
+
+    fn from(_error: OutOfMemory) -> HostFault {
+        HostFault::OutOfMemory
+    }
+}

@@ -1,0 +1,19 @@
+//! The host: its driver, which brings the controller up, submits commands and ends them, answers what
+//! the controller tells of disks that come and go, and resets the controller.
+//!
+//! A contract sees a `Host` as the record of the host's rules, with what it told, and each call leaves
+//! what the rules say. A call takes all the memory that it needs before it changes anything.
+#![tactic(auto)]
+
+mod faults;
+mod host;
+
+pub use faults::{HostFault, TakeFault};
+pub use host::Host;
+pub use mpt_rules::{HostFrame, OutOfMemory, Why};
+
+#[test]
+fn is_made(rt: HostRuntime) {
+    let host = Host::new(rt.alloc());
+    assert!(rt; host.is_ok());
+}
