@@ -4,8 +4,12 @@ ghost use Rattle.mpt_rules.specs.Host.Parts.{new_host};
 
 mod doorbell;
 mod posts;
+mod removal;
+mod replies;
 mod resets;
 mod returns;
+mod strange;
+mod taking;
 mod values;
 
 use host_tables::{
