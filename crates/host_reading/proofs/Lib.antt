@@ -1,0 +1,5 @@
+pub mod Numbers
+pub mod Pages
+pub mod Listed
+pub mod Facts
+pub mod Framed
