@@ -3,3 +3,4 @@ pub mod Driver
 pub mod Faults
 pub mod Posts
 pub mod Taking
+pub mod Places

@@ -3,7 +3,9 @@ ghost use Rattle.std.specs.Prelude.{◌≡◌, ◌≤◌, ◌<◌, ◌+◌, ◌+
 ghost use Rattle.mpt_rules.specs.Host.Parts.{new_host};
 
 mod doorbell;
+mod inputs;
 mod posts;
+mod queries;
 mod removal;
 mod replies;
 mod resets;

@@ -7,10 +7,12 @@
 
 mod faults;
 mod host;
+mod places;
 
 pub use faults::{HostFault, TakeFault};
 pub use host::Host;
 pub use mpt_rules::{HostFrame, OutOfMemory, Why};
+pub use places::HostSmid;
 
 #[test]
 fn is_made(rt: HostRuntime) {

@@ -19,7 +19,7 @@ use mpi_rings::PostKind;
 use mpt_messages::HostAsk;
 use mpt_rules::Request;
 use mpt_trace::{Handle, Smid};
-use scsi_disk::{Bytes, Command};
+use scsi_disk::{Bytes, Command, Direction};
 use std::alloc::Global;
 
 impl Host {
@@ -196,6 +196,48 @@ pub(crate) fn push_task(
     };
     let descriptor = descriptor_of(PostKind::HighPriority, 0, smid, 0);
     lists.push_post(descriptor, &ask, Bytes::empty(alloc));
+}
+
+// A command goes out to a handle under an identifier, and its reply is to come on this queue.
+pub(crate) fn push_command(
+    lists: &mut HostLists,
+    queue: u8,
+    smid: Smid,
+    handle: Handle,
+    command: Command,
+)
+    requires smid { (1 ≤ smid) × (smid ≤ 256) }
+    requires fits { fits command ≡ true }
+    requires room { 1 ≤ lists.old.room }
+    ensures { lists.new ≡ record lists.old {
+      down = lists.old.down ++ Down.Post (post_descriptor post.ScsiIo queue smid handle) (frame_asked (command_asked smid handle command)) command.payload ∷ [];
+      room = lists.old.room - 1;
+    } }
+{
+    let ask = command_ask(smid, handle, &command);
+    let descriptor = descriptor_of(PostKind::ScsiIo, queue, smid, handle);
+    lists.push_post(descriptor, &ask, command.payload);
+}
+
+// What a command asks.
+fn command_ask(smid: Smid, handle: Handle, command: &Command) -> HostAsk
+    requires smid { (1 ≤ smid) × (smid ≤ 256) }
+    requires fits { fits command.now ≡ true }
+    ensures value { result ≡ command_asked smid handle command.now }
+    ensures known { IsAsk result }
+{
+    let bytes = command.cdb.as_slice();
+    let mut cdb = [0; 16];
+    cdb[..bytes.len()].copy_from_slice(bytes);
+    HostAsk::ScsiIo {
+        smid,
+        handle,
+        lun: command.lun,
+        cdb,
+        cdb_len: bytes.len() as u8,
+        len: command.len,
+        write: matches!(command.direction(), Direction::Write),
+    }
 }
 
 // A request descriptor as the number of its bytes.
