@@ -25,10 +25,11 @@ impl Host {
         ensures room { self.old.room ≤ self.new.room + 45 }
         ensures numbers { self.old.has_number_room ≡ true → self.new.has_number_room ≡ true }
     {
-        self.ask_internal(Request::Ack {
+        let ack = Request::Ack {
             event: reply.event(),
             context: reply.event_context(),
-        });
+        };
+        self.ask_internal(ack);
         for place in 0..reply.count_changes() {
             self.hear_change(reply.change_at(place));
         }

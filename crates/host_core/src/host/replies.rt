@@ -3,7 +3,7 @@ ghost use Rattle.std.specs.Prelude.{◌≡◌, ◌≢◌, ◌<◌, ◌≤◌, �
 ghost use Rattle.smid_pool.specs.Pool.{is_open, record_of, slot_of};
 ghost use Rattle.host_tables.specs.Slots.{IsInternalSmid, is_internal};
 ghost use Rattle.mpt_rules.specs.Host.Replies.{after_port_enable, closes_abort, ends_target, hears_answer, hears_notified, hears_reply, hears_reply_to, host_answers, host_ends_abort, reply_bytes, takes_entry, with_frame_heard};
-ghost use Rattle.mpt_rules.specs.Host.Strange.{why_reply};
+ghost use Rattle.mpt_rules.specs.Host.Strange.{not_returned, why_reply};
 
 use super::Host;
 use host_reading::HeardReply;
@@ -28,13 +28,25 @@ impl Host {
     {
         let smid = reply.smid();
         let asked = self.pool.get(smid);
-        if let Some(frame) = reply.frame() {
-            self.take_frame_back(frame);
-        }
+        self.take_frame(&reply);
         self.take_entry(queue, reply.descriptor());
         match asked {
             Some(request) => self.hear_answer(smid, request, reply),
             None => self.hear_news(&reply),
+        }
+    }
+
+    // The frame of a reply goes back, where it has one.
+    fn take_frame(&mut self, reply: &HeardReply)
+        requires frame { not_returned self.old.host reply.now.descriptor reply.now.frame ≡ None }
+        requires room { 1 ≤ self.old.room }
+        ensures host { self.new.host ≡ with_frame_heard self.old.host reply.now.descriptor reply.now.frame }
+        ensures told { self.new.told ≡ self.old.told }
+        ensures room { self.old.room ≤ self.new.room + 1 }
+        ensures numbers { self.old.has_number_room ≡ true → self.new.has_number_room ≡ true }
+    {
+        if let Some(frame) = reply.frame() {
+            self.take_frame_back(frame);
         }
     }
 
