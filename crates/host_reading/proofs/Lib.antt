@@ -1,5 +1,0 @@
-pub mod Numbers
-pub mod Pages
-pub mod Listed
-pub mod Facts
-pub mod Framed
