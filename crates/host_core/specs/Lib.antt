@@ -4,3 +4,4 @@ pub mod Faults
 pub mod Posts
 pub mod Taking
 pub mod Places
+pub mod Resets

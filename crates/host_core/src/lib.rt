@@ -8,14 +8,10 @@
 mod faults;
 mod host;
 mod places;
+#[cfg(test)]
+mod tests;
 
 pub use faults::{HostFault, TakeFault};
 pub use host::Host;
 pub use mpt_rules::{HostFrame, OutOfMemory, Why};
 pub use places::HostSmid;
-
-#[test]
-fn is_made(rt: HostRuntime) {
-    let host = Host::new(rt.alloc());
-    assert!(rt; host.is_ok());
-}

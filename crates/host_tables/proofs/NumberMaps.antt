@@ -13,11 +13,11 @@ use Rattle.std.specs.FinMap.{entries, entries-insert, find, len-empty, len-entri
 use Rattle.std.proofs.lemmas.Bool.{cases_Bool}
 use Rattle.host_tables.specs.Numbered.{newest_at, newest_without, with_newest}
 
-turned : (a b : ℕ) → eq_by_cmp nat_cmp a b ≡ eq_by_cmp nat_cmp b a
+pub turned : (a b : ℕ) → eq_by_cmp nat_cmp a b ≡ eq_by_cmp nat_cmp b a
 turned a b = (eq_by_cmp_equiv nat_cmp_total).symm a b
 
 -- the test of a number against a key, in the map's words
-same_test : (k n : ℕ) → eq_by_cmp nat_cmp n k ≡ eqb k n
+pub same_test : (k n : ℕ) → eq_by_cmp nat_cmp n k ≡ eqb k n
 same_test k n = turned n k ∙ unsigned_tied k n
 
 key_of : (q k n : ℕ) → eqb k n ≡ false → eq_by_cmp nat_cmp q n ≡ true → eq_by_cmp nat_cmp q k ≡ false

@@ -4,6 +4,7 @@ ghost use Rattle.std.specs.List.{filter_map};
 ghost use Rattle.std.specs.FinMap as numbers;
 ghost use Rattle.mpi_doorbell.specs.HostSteps.{Expects};
 ghost use Rattle.mpt_rules.specs.Host.Resets.{begins_late, ends_reset, ends_reset_if_over, gives_up, hears_mark, hears_ready, renewed, reset_abort, reset_answer, reset_target, reset_told, with_reset_asked};
+ghost use Rattle.host_core.specs.Resets.{target_told};
 ghost use Rattle.host_core.specs.Driver.{CanEndReset, CanSubmit, IsSame, reset_room};
 
 use super::Host;
@@ -220,11 +221,21 @@ fn tell_targets(pool: &Identifiers, lists: &mut HostLists)
     ensures room { lists.old.room ≤ lists.new.room + 280 }
 {
     for place in 0..pool.count() {
-        if let Some(Request::TargetReset { address }) = pool.get(place + 1) {
-            lists.push_told(Entry::TargetEnd {
-                address,
-                outcome: TargetOutcome::Reset,
-            });
-        }
+        tell_target(pool.get(place + 1), lists);
+    }
+}
+
+// A target reset that was asked from outside is told as ended by the reset.
+fn tell_target(request: Option<Request>, lists: &mut HostLists)
+    requires { 1 ≤ lists.old.room }
+    ensures told { lists.new.told ≡ lists.old.told ++ target_told request }
+    ensures others { lists.new ≡ record lists.old { told = lists.new.told; room = lists.new.room } }
+    ensures room { lists.old.room ≤ lists.new.room + 1 }
+{
+    if let Some(Request::TargetReset { address }) = request {
+        lists.push_told(Entry::TargetEnd {
+            address,
+            outcome: TargetOutcome::Reset,
+        });
     }
 }

@@ -1,0 +1,5 @@
+pub mod Handshakes
+pub mod Posts
+pub mod Returns
+pub mod Resets
+pub mod Inputs

@@ -1,0 +1,35 @@
+-- Posts in the rules' words, with every choice made.
+use Rattle.std.proofs.Common.{◌≡◌, ℕ, ◌-◌, true, [], ◌∷◌, ◌++◌, List, refl}
+use Rattle.std.proofs.lemmas.List.{set-set}
+use Rattle.smid_pool.specs.Pool.{Free, Open, Slot, with_slot}
+use Rattle.mpi_rings.specs.declared.request_descriptor.PostKind.TheVariants as post
+use Rattle.mpt_trace.specs.declared.item.Down.TheVariants as down
+use Rattle.mpt_wire.specs.Messages.Fields.{post_descriptor}
+use Rattle.mpt_rules.specs.declared.request.Request.{Request}
+use Rattle.mpt_rules.specs.declared.request.Request.TheVariants as request
+use Rattle.mpt_rules.specs.Host.Parts.{Host}
+use Rattle.mpt_rules.specs.Host.Posts.{frame_asked, posts_internal}
+use Rattle.host_tables.specs.Slots.{is_internal}
+use Rattle.host_core.specs.Posts.{internal_ask, phases_granted, waiting_handle}
+
+-- the post of a request of the internal class
+pub posts_internal-is : (host : Host) (smid : ℕ) (r : Request) → is_internal r ≡ true →
+    posts_internal host smid r
+    ≡ record host {
+      pool = with_slot smid (Open r) host.pool;
+      out = host.out ++ down.Post (post_descriptor post.Default 0 smid 0) (frame_asked (internal_ask smid r)) [] ∷ [];
+      phases = phases_granted host.phases (waiting_handle r) smid;
+    }
+posts_internal-is host smid (request.Page handle) internal = refl
+posts_internal-is host smid (request.Remove handle) internal = refl
+posts_internal-is host smid (request.Ack event context) internal = refl
+posts_internal-is host smid request.Notification internal = refl
+posts_internal-is host smid request.PortEnable internal = refl
+posts_internal-is host smid (request.Command n) internal = absurd (cc)
+posts_internal-is host smid (request.Abort n task) internal = absurd (cc)
+posts_internal-is host smid (request.TargetReset address) internal = absurd (cc)
+posts_internal-is host smid (request.Leave handle) internal = absurd (cc)
+
+-- an identifier that was freed and opened again
+pub opened_again : (slots : List (Slot Request)) (smid : ℕ) (r : Request) → with_slot smid (Open r) (with_slot smid Free slots) ≡ with_slot smid (Open r) slots
+opened_again slots smid r = set-set slots (smid - 1) Free (Open r)
