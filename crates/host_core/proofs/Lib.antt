@@ -3,3 +3,7 @@ pub mod Posts
 pub mod Returns
 pub mod Resets
 pub mod Inputs
+pub mod StrangeChecks
+pub mod Changes
+pub mod Replies
+pub mod Handles

@@ -19,11 +19,35 @@ fn first_success(alloc: Global) -> Up {
 fn what_a_new_host_finds_strange(rt: HostRuntime) -> Result<(), Fail> {
     let mut host = Host::with_queues(rt.alloc(), 2)?;
     let reply = host.take_up(first_success(rt.alloc()));
-    assert!(rt; matches!(reply, Err(TakeFault::Strange { why: Why::NotOpen(1), .. })));
+    assert!(rt;
+        matches!(
+            reply,
+            Err(TakeFault::Strange {
+                why: Why::NotOpen(1),
+                ..
+            })
+        )
+    );
     let mark = host.take_up_on(1, Up::Mark { generation: 0 });
-    assert!(rt; matches!(mark, Err(TakeFault::Strange { why: Why::BadMark(0), .. })));
+    assert!(rt;
+        matches!(
+            mark,
+            Err(TakeFault::Strange {
+                why: Why::BadMark(0),
+                ..
+            })
+        )
+    );
     let value = host.take_up(Up::Value(0));
-    assert!(rt; matches!(value, Err(TakeFault::Strange { why: Why::NoRead, .. })));
+    assert!(rt;
+        matches!(
+            value,
+            Err(TakeFault::Strange {
+                why: Why::NoRead,
+                ..
+            })
+        )
+    );
     assert!(rt; host.take_up(Up::Calm).is_ok());
     Ok(())
 }

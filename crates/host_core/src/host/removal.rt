@@ -4,14 +4,12 @@ ghost use Rattle.std.specs.Prelude.{◌≡◌, ◌≤◌, ◌+◌, ◌++◌, IsT
 ghost use Rattle.smid_pool.specs.Pool.{is_open, slot_of};
 ghost use Rattle.removal.specs.Handles.{phase_at};
 ghost use Rattle.host_tables.specs.Slots.{IsInternalSmid};
-ghost use Rattle.mpt_rules.specs.Host.Removal.{after_handle_added, after_handle_lost, begins_removal, hears_change, hears_event, left, ready_told, reads_page, removed};
+ghost use Rattle.mpt_rules.specs.Host.Removal.{after_handle_added, after_handle_lost, begins_removal, hears_change, hears_event, left, lost_told, ready_told, reads_page, removed};
 ghost use Rattle.mpt_rules.specs.Host.Replies.{reply_bytes};
 
 use super::Host;
 use host_reading::{Change, HeardReply, is_disk_handle};
-use mpi_names::{
-    MPI2_EVENT_SAS_TOPO_RC_TARG_ADDED, MPI2_EVENT_SAS_TOPO_RC_TARG_NOT_RESPONDING,
-};
+use mpi_names::{MPI2_EVENT_SAS_TOPO_RC_TARG_ADDED, MPI2_EVENT_SAS_TOPO_RC_TARG_NOT_RESPONDING};
 use mpt_rules::Request;
 use mpt_trace::{Address, Entry, Handle, Smid};
 use removal::Phase;
@@ -99,8 +97,19 @@ impl Host {
         let lost = self.phases.on_gone(handle);
         self.lists.drop_page(handle);
         self.ask_leave(handle);
-        if let Some(address) = lost {
-            self.tell(Entry::Lost { address, handle });
+        self.tell_if(lost_told(handle, lost));
+    }
+
+    // An entry is told, where there is one.
+    fn tell_if(&mut self, entry: Option<Entry>)
+        requires { 1 ≤ self.old.room }
+        ensures host { self.new.host ≡ self.old.host }
+        ensures told { self.new.told ≡ self.old.told ++ option_to_list entry }
+        ensures room { self.old.room ≤ self.new.room + 1 }
+        ensures numbers { self.old.has_number_room ≡ true → self.new.has_number_room ≡ true }
+    {
+        if let Some(entry) = entry {
+            self.tell(entry);
         }
     }
 
@@ -118,9 +127,7 @@ impl Host {
         let ready = ready_told(handle, smid, self.phases.at(handle), page);
         self.phases.on_page(handle, smid, page);
         self.free_internal(smid);
-        if let Some(entry) = ready {
-            self.tell(entry);
-        }
+        self.tell_if(ready);
     }
 
     // The target reset of a removal was answered, with any status: the remove device follows.
@@ -152,6 +159,16 @@ impl Host {
     {
         self.phases.on_removed(handle, smid);
         self.free_internal(smid);
+    }
+}
+
+// What is told of a disk that isn't responding any more, whose address was ready.
+fn lost_told(handle: Handle, lost: Option<Address>) -> Option<Entry>
+    ensures { option_to_list result ≡ lost_told handle lost }
+{
+    match lost {
+        Some(address) => Some(Entry::Lost { address, handle }),
+        None => None,
     }
 }
 

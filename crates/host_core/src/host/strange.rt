@@ -9,8 +9,8 @@ ghost use Rattle.host_reading.specs.Checks.{why_in};
 use super::Host;
 use host_reading::{
     address_of_frame, check_answer, check_descriptor, check_frame, check_handshake,
-    check_queue_of_mark, check_queue_of_reply, check_queue_of_value, check_status, first_not_absent,
-    refuse_where, smid_of_reply,
+    check_queue_of_mark, check_queue_of_reply, check_queue_of_value, check_status,
+    first_not_absent, refuse_where, smid_of_reply,
 };
 use host_tables::{frame_of, is_frame_address, last_step};
 use mpi_doorbell::DoorStep;
@@ -55,7 +55,11 @@ impl Host {
         match last_step(door, value) {
             DoorStep::Refused { step, value } => Err(Why::DoorRefused { step, value }),
             DoorStep::Done { length, bytes } => {
-                check_handshake(self.stage, self.rings.count(), &bytes[..usize::from(length)])
+                check_handshake(
+                    self.stage,
+                    self.rings.count(),
+                    &bytes[..usize::from(length)],
+                )
             }
             DoorStep::Read { .. } | DoorStep::Write { .. } => Ok(()),
         }
@@ -66,8 +70,9 @@ impl Host {
         ensures { why_in result ≡ why_mark self.now.host queue generation }
     {
         check_queue_of_mark(queue)?;
-        let is_bad =
-            !self.is_resetting() || generation != self.asked || self.rings.is_marked(queue);
+        let is_bad = !self.is_resetting()
+            || generation != self.asked
+            || self.rings.is_marked(queue);
         refuse_where(is_bad, Why::BadMark(generation))
     }
 
