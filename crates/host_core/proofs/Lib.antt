@@ -1,3 +1,4 @@
+pub mod Commands
 pub mod Handshakes
 pub mod Posts
 pub mod Returns

@@ -47,9 +47,13 @@ pub struct Host {
 
 impl Model for Host {
     ghost use Rattle.std.specs.Prelude.{◌&&◌};
+    ghost use Rattle.std.specs.Coded.{codes};
+    ghost use Rattle.std.specs.FinMap as map;
     ghost use Rattle.host_core.specs.Driver.{Driver};
 
     ghost Value = { Driver };
+
+    ghost coded = { Prim.hlevel (codes, map.code) };
 
     ghost view = { λ h. record {
       host = record {

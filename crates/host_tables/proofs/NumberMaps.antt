@@ -118,3 +118,8 @@ module _ {V : Type 0} where
   pub keys-tree : (o : Option (ℕ × V)) (es : List (ℕ × V)) → is_none o ≡ true → IsStrictlySortedBy nat_cmp (keys_of es) → map.keys (with_newest o (map.from_entries {R = nat_cmp} es)) ≡ keys_of es
   keys-tree None es none sorted = ap (each (λ (e : ℕ × V). e.0)) (entries-tree es sorted)
   keys-tree (Some e) es none sorted = absurd (cc)
+
+  -- a tree without entries has no keys
+  pub no_keys : (es : List (ℕ × V)) → length es ≡ 0 → keys_of es ≡ []
+  no_keys [] none = refl
+  no_keys (e ∷ es) none = absurd (omega arith)

@@ -1,5 +1,5 @@
 //! Maps from the numbers of submissions.
-ghost use Rattle.std.specs.Prelude.{◌≡◌, ◌<◌, ◌^◌, ◌++◌, OnOk, OnErr, true, false, length, option_copied, option_to_list};
+ghost use Rattle.std.specs.Prelude.{◌≡◌, ◌<◌, ◌^◌, ◌++◌, [], None, OnOk, OnErr, true, false, length, option_copied, option_to_list};
 ghost use Rattle.std.specs.FinMap as map;
 ghost use Rattle.host_tables.specs.Numbered.{newest_at, newest_without};
 
@@ -89,6 +89,7 @@ impl<V: Drop> NumberMap<V> {
     pub fn pop_first(&mut self) -> Option<u32>
         requires { self.old.has_room ≡ true }
         ensures first { map.keys self.old.map ≡ option_to_list result ++ map.keys self.new.map }
+        ensures none { result ≡ None → map.keys self.old.map ≡ [] }
         ensures room { self.new.has_room ≡ true }
     {
         if self.settled.len() == 0 {

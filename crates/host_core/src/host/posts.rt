@@ -5,6 +5,7 @@ ghost use Rattle.smid_pool.specs.Pool.{Free, is_open, slot_of, with_slot};
 ghost use Rattle.host_tables.specs.Slots.{IsInternalSmid, is_internal};
 ghost use Rattle.mpi_rings.specs.declared.request_descriptor.PostKind.TheVariants as post;
 ghost use Rattle.mpt_messages.specs.HostFrames.{IsAsk, IsTask};
+ghost use Rattle.mpt_trace.specs.declared.item.Down.TheVariants as down;
 ghost use Rattle.mpt_wire.specs.Messages.Fields.{post_descriptor};
 ghost use Rattle.mpt_rules.specs.Host.Posts.{asks_internal, asks_leave, command_asked, frame_asked, frees, frees_high, frees_internal};
 ghost use Rattle.host_core.specs.Posts.{internal_ask, phases_granted, waiting_handle};
@@ -131,7 +132,7 @@ fn push_internal(lists: &mut HostLists, alloc: Global, smid: Smid, request: &Req
     requires room { 1 ≤ lists.old.room }
     requires smid { IsInternalSmid smid }
     ensures { lists.new ≡ record lists.old {
-      down = lists.old.down ++ Down.Post (post_descriptor post.Default 0 smid 0) (frame_asked (internal_ask smid request.now)) [] ∷ [];
+      down = lists.old.down ++ down.Post (post_descriptor post.Default 0 smid 0) (frame_asked (internal_ask smid request.now)) [] ∷ [];
       room = lists.old.room - 1;
     } }
 {
@@ -159,7 +160,7 @@ fn ask_of(smid: Smid, request: &Request) -> HostAsk
 fn push_leave(lists: &mut HostLists, alloc: Global, smid: Smid, handle: Handle)
     requires { 1 ≤ lists.old.room }
     ensures { lists.new ≡ record lists.old {
-      down = lists.old.down ++ Down.Post (post_descriptor post.HighPriority 0 smid 0) (frame_asked (HostAsk.Task handle 3 0)) [] ∷ [];
+      down = lists.old.down ++ down.Post (post_descriptor post.HighPriority 0 smid 0) (frame_asked (HostAsk.Task handle 3 0)) [] ∷ [];
       room = lists.old.room - 1;
     } }
 {
@@ -185,7 +186,7 @@ pub(crate) fn push_task(
     requires room { 1 ≤ lists.old.room }
     requires task { IsTask task_type task_mid }
     ensures { lists.new ≡ record lists.old {
-      down = lists.old.down ++ Down.Post (post_descriptor post.HighPriority 0 smid 0) (frame_asked (HostAsk.Task handle task_type task_mid)) [] ∷ [];
+      down = lists.old.down ++ down.Post (post_descriptor post.HighPriority 0 smid 0) (frame_asked (HostAsk.Task handle task_type task_mid)) [] ∷ [];
       room = lists.old.room - 1;
     } }
 {
@@ -210,7 +211,7 @@ pub(crate) fn push_command(
     requires fits { fits command ≡ true }
     requires room { 1 ≤ lists.old.room }
     ensures { lists.new ≡ record lists.old {
-      down = lists.old.down ++ Down.Post (post_descriptor post.ScsiIo queue smid handle) (frame_asked (command_asked smid handle command)) command.payload ∷ [];
+      down = lists.old.down ++ down.Post (post_descriptor post.ScsiIo queue smid handle) (frame_asked (command_asked smid handle command)) command.payload ∷ [];
       room = lists.old.room - 1;
     } }
 {

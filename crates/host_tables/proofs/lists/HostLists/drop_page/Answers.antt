@@ -11,8 +11,7 @@ use Rattle.host_tables.proofs.lists.HostLists.drop_page.Goals as goal
 pub invariant_of-self : goal.invariant_of-self
 invariant_of-self c =
     let kept : c.retain.new.self.items ≡ without_page c.args.handle c.self.inside.internal.items =
-    filter_same _ (λ (r : Request). not (is_page_of c.args.handle r)) _ (λ x b f k. search (rules, tests)) c.self.inside.internal.items c.retain.new.self.items c.retain.ensures.filtered in
-    (
+    filter_same _ (λ (r : Request). not (is_page_of c.args.handle r)) _ (λ x b f k. search (rules, tests)) c.self.inside.internal.items c.retain.new.self.items c.retain.ensures.filtered in (
       c.self.invariant.0,
       c.self.invariant.1,
       c.self.invariant.2,

@@ -1,7 +1,7 @@
 use Rattle.std.proofs.Common.{◌≡◌, ◌≤◌, ◌+◌}
 use Rattle.std.specs.List.{fold, range_with_len}
 use Rattle.mpt_rules.specs.Host.Returns.{with_return}
-use Rattle.host_core.proofs.host.returns.Host.return_all.Given as goal
+use Rattle.host_core.proofs.host.Host.return_all.Given as goal
 
 abbrev pub invariant-loop-frame : goal.invariant-loop-frame
 invariant-loop-frame l =

@@ -1,0 +1,15 @@
+use Rattle.std.proofs.Common.{◌≡◌, ◌∙◌, [], refl, sym, ap}
+use Rattle.host_tables.specs.Lists.{Lists}
+use Rattle.host_core.specs.contracts.host.Host.{the_view}
+use Rattle.host_core.proofs.Posts.{gives_internal-is, none_waits}
+use Rattle.host_core.proofs.host.Host.free_internal.Goals as goal
+
+pub returns-in-Some-clause-host : goal.returns-in-Some-clause-host
+returns-in-Some-clause-host c =
+    rw (← c.self.view_is, c.in-Some.ensures.first, c.push_internal.ensures, c.grant.ensures, c.reopen.ensures, c.in-Some.ensures.rest)
+    (sym (gives_internal-is (the_view c.self.inside).host c.args.smid c.in-Some.request _ c.in-Some.ensures.class))
+
+pub returns-in-None-clause-host : goal.returns-in-None-clause-host
+returns-in-None-clause-host c =
+    let none : c.self.inside.lists.internal ≡ [] = none_waits c.self.inside.lists.internal (c.in-None.ensures.first ∙ ap (λ (l : Lists). l.internal) c.in-None.ensures.rest) in
+    rw (← c.self.view_is, c.free.ensures, c.in-None.ensures.rest, none) refl
