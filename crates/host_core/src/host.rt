@@ -3,10 +3,10 @@ ghost use Rattle.std.specs.Prelude.{◌≡◌, ◌≤◌, ◌<◌, ◌+◌, ◌+
 ghost use Rattle.mpt_rules.specs.Host.Parts.{new_host};
 
 mod doorbell;
+mod handles;
 mod inputs;
 mod posts;
 mod queries;
-mod removal;
 mod replies;
 mod resets;
 mod returns;
