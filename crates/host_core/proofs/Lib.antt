@@ -1,8 +1,8 @@
 pub mod Commands
-pub mod Handshakes
 pub mod Posts
 pub mod Returns
 pub mod Resets
+pub mod DoorTurns
 pub mod Inputs
 pub mod StrangeChecks
 pub mod Changes

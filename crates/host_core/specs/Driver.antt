@@ -24,11 +24,20 @@ pub record CanSubmit (driver : Driver) : Type 0 where
   pub room : 2 ≤ driver.room
   pub number : driver.has_number_room ≡ true
 
--- what was open can be told as ended by a reset, and the start go on
-abbrev pub reset_room : Host → ℕ
-reset_room host = length (map.keys host.cmds) + length (map.keys host.aborts) + 300
+-- so many entries tell what was open as ended by a reset, but for the target resets
+abbrev pub open_count : Host → ℕ
+open_count host = length (map.keys host.cmds) + length (map.keys host.aborts)
 
 -- a reset's end, or a step of a start, takes no memory
+pub record CanTellReset (driver : Driver) : Type 0 where
+  pub room : open_count driver.host + 300 ≤ driver.room
+  pub numbers : driver.has_number_room ≡ true
+  pub aborts : driver.has_abort_room ≡ true
+
+-- nor does it where a turn at the doorbell comes before it
+abbrev pub reset_room : Host → ℕ
+reset_room host = open_count host + 309
+
 pub record CanEndReset (driver : Driver) : Type 0 where
   pub room : reset_room driver.host ≤ driver.room
   pub numbers : driver.has_number_room ≡ true

@@ -5,7 +5,7 @@ ghost use Rattle.std.specs.FinMap as numbers;
 ghost use Rattle.mpi_doorbell.specs.HostSteps.{Expects};
 ghost use Rattle.mpt_rules.specs.Host.Resets.{begins_late, ends_reset, ends_reset_if_over, gives_up, hears_mark, hears_ready, renewed, reset_abort, reset_answer, reset_target, reset_told, with_reset_asked};
 ghost use Rattle.host_core.specs.Resets.{target_told};
-ghost use Rattle.host_core.specs.Driver.{CanEndReset, CanSubmit, IsSame, reset_room};
+ghost use Rattle.host_core.specs.Driver.{CanEndReset, CanSubmit, CanTellReset, IsSame, reset_room};
 
 use super::Host;
 use host_tables::{HostLists, Identifiers, NumberMap, OpenCommand};
@@ -13,9 +13,9 @@ use mpi_doorbell::DoorHost;
 use mpt_rules::{OutOfMemory, Request, Stage};
 use mpt_trace::{AbortOutcome, Entry, HostState, Outcome, Smid, TargetOutcome};
 
-// So much room is wanted for a step of a start, or for the end of a reset beside what it tells of
-// submissions and aborts.
-const RESET_ROOM: usize = 300;
+// So much room is wanted for a turn and a step of a start, or for the end of a reset beside what it
+// tells of submissions and aborts.
+const RESET_ROOM: usize = 309;
 
 impl Host {
     // Room for the end of a reset and the start that follows, or for a step of a start.
@@ -88,7 +88,7 @@ impl Host {
 
     // The Doorbell has read READY.
     pub(crate) fn hear_ready(&mut self)
-        requires { CanEndReset self.old }
+        requires { CanTellReset self.old }
         ensures host { self.new.host ≡ (hears_ready self.old.host).part }
         ensures told { self.new.told ≡ self.old.told ++ (hears_ready self.old.host).entries }
         ensures room { 2 ≤ self.new.room }
@@ -113,7 +113,7 @@ impl Host {
 
     // The reset is done once the Doorbell has read READY and all marks were taken.
     fn end_reset_if_over(&mut self)
-        requires { CanEndReset self.old }
+        requires { CanTellReset self.old }
         ensures host { self.new.host ≡ (ends_reset_if_over self.old.host).part }
         ensures told { self.new.told ≡ self.old.told ++ (ends_reset_if_over self.old.host).entries }
         ensures room { 2 ≤ self.new.room }
@@ -126,7 +126,7 @@ impl Host {
 
     // The reset is told as done, and the start goes on with IOC Facts.
     fn end_reset(&mut self)
-        requires { CanEndReset self.old }
+        requires { CanTellReset self.old }
         ensures host { self.new.host ≡ (ends_reset self.old.host).part }
         ensures told { self.new.told ≡ self.old.told ++ (ends_reset self.old.host).entries }
         ensures room { 2 ≤ self.new.room }
@@ -140,7 +140,7 @@ impl Host {
     // What was open is answered: the submissions and the aborts by rising number, the target resets by
     // rising identifier. The numbers of the first two are taken out.
     fn tell_reset(&mut self)
-        requires { CanEndReset self.old }
+        requires { CanTellReset self.old }
         ensures others { self.new.host ≡ record self.old.host { cmds = self.new.host.cmds; aborts = self.new.host.aborts } }
         ensures told { self.new.told ≡ self.old.told ++ reset_told self.old.host }
         ensures room { 19 ≤ self.new.room }

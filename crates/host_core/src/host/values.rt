@@ -2,7 +2,7 @@
 ghost use Rattle.std.specs.Prelude.{◌≡◌, ◌≤◌, ◌+◌, ◌++◌, ◌<◌, slice_index, true};
 ghost use Rattle.mpi_doorbell.specs.Sizes.{IsDoneWithin};
 ghost use Rattle.mpt_rules.specs.Host.Values.{after_turn, begins_messages, ends_stage, hears_value, looks_to_start, starts_by, state_read};
-ghost use Rattle.host_core.specs.Driver.{CanEndReset};
+ghost use Rattle.host_core.specs.Driver.{CanEndReset, CanTellReset};
 
 use super::Host;
 use mpi_doorbell::registers::{
@@ -33,7 +33,7 @@ impl Host {
 
     // The end of the machine, which was for this, counts.
     fn hear_step(&mut self, stage: Stage, step: DoorStep)
-        requires room { CanEndReset self.old }
+        requires room { CanTellReset self.old }
         requires size { IsDoneWithin step }
         ensures host { self.new.host ≡ (after_turn self.old.host stage step).part }
         ensures told { self.new.told ≡ self.old.told ++ (after_turn self.old.host stage step).entries }
@@ -51,7 +51,7 @@ impl Host {
 
     // The steps of a start follow each other; a look ends; a reset that was asked waits for its marks.
     fn end_stage(&mut self, stage: Stage, bytes: &[u8])
-        requires { CanEndReset self.old }
+        requires { CanTellReset self.old }
         ensures host { self.new.host ≡ (ends_stage self.old.host stage bytes.now).part }
         ensures told { self.new.told ≡ self.old.told ++ (ends_stage self.old.host stage bytes.now).entries }
         ensures room { 2 ≤ self.new.room }
