@@ -22,6 +22,8 @@ impl Host {
         ensures returned { IfErr result (λ fault. item_of fault ≡ item) }
         ensures reserved { CanSubmit self.old → CanSubmit self.new }
     {
+        // There is a queue 0, however many there are.
+        let _queues = self.rings.count();
         self.take_up_on(0, item)
     }
 
