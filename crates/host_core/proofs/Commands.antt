@@ -1,12 +1,12 @@
 -- What a command asks.
-use Rattle.std.proofs.Common.{◌≡◌, ◌∙◌, ℕ, ◌-◌, ◌≤◌, Bool, true, false, not, ◌&&◌, ◌==◌, if◌then◌else◌, List, ◌++◌, length, drop, replicate, refl, sym, arith, All}
-use Rattle.std.proofs.lemmas.Bool.{eqb-true, leb-true}
-use Rattle.std.proofs.lemmas.List.{drop-append-le, drop-replicate, drop_all}
+use Rattle.std.proofs.Common.{◌≡◌, ◌∙◌, ℕ, ◌-◌, ◌≤◌, Bool, true, false, not, ◌&&◌, ◌==◌, if◌then◌else◌, List, length, drop, replicate, refl, arith}
+use Rattle.std.proofs.lemmas.Bool.{leb-true}
+use Rattle.std.proofs.lemmas.List.{drop-append-le, drop_all}
 use Rattle.std.proofs.lemmas.List.Elements.{All-replicate}
 use Rattle.scsi_disk.specs.declared.command.Command.{Command}
 use Rattle.scsi_disk.specs.declared.command.Direction.{Direction}
 use Rattle.scsi_disk.specs.declared.command.Direction.TheVariants as direction
-use Rattle.scsi_disk.specs.Command.{agrees, direction_of, fits, is_write, length_named}
+use Rattle.scsi_disk.specs.Command.{direction_of, fits, is_write}
 use Rattle.mpt_messages.specs.HostFrames.{IsCommand}
 use Rattle.mpt_rules.specs.Host.Posts.{is_data_to_disk, padded_cdb}
 

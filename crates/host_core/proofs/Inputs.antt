@@ -1,5 +1,5 @@
 -- What the host is asked from outside, where it is decided whether it is refused.
-use Rattle.std.proofs.Common.{◌≡◌, ℕ, Bool, true, false, List, Option, Some, None, Result, Ok, Err, refl}
+use Rattle.std.proofs.Common.{◌≡◌, ℕ, List, Option, Some, None, refl}
 use Rattle.mpt_trace.specs.declared.entry.Entry.{Entry}
 use Rattle.mpt_trace.specs.declared.refusal.Refusal.{Refusal}
 use Rattle.mpt_rules.specs.Host.Parts.{Host}

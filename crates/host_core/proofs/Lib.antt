@@ -4,7 +4,4 @@ pub mod Returns
 pub mod Resets
 pub mod DoorTurns
 pub mod Inputs
-pub mod StrangeChecks
 pub mod Changes
-pub mod Replies
-pub mod Handles

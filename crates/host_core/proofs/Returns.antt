@@ -1,5 +1,5 @@
 -- Returns, one after the other.
-use Rattle.std.proofs.Common.{◌≡◌, ◌∙◌, ℕ, zero, suc, ◌+◌, [], ◌∷◌, ◌++◌, List, refl, ap, sym, arith}
+use Rattle.std.proofs.Common.{◌≡◌, ◌∙◌, ℕ, zero, suc, ◌+◌, refl, ap, arith}
 use Rattle.std.specs.List.{fold, range_with_len}
 use Rattle.mpt_rules.specs.Host.Parts.{Host}
 use Rattle.mpt_rules.specs.Host.Returns.{with_return}

@@ -1,4 +1,4 @@
-use Rattle.std.proofs.Common.{◌≡◌, ◌∙◌, refl}
+use Rattle.std.proofs.Common.{◌∙◌}
 use Rattle.host_core.proofs.host.Host.abort.Goals as goal
 
 pub returns-clause-ok : goal.returns-clause-ok

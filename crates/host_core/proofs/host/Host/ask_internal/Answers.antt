@@ -1,4 +1,4 @@
-use Rattle.std.proofs.Common.{◌≡◌, refl, sym}
+use Rattle.std.proofs.Common.{sym}
 use Rattle.host_core.proofs.Posts.{posts_internal-is}
 use Rattle.host_core.proofs.host.Host.ask_internal.Goals as goal
 

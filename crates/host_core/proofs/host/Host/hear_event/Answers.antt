@@ -13,13 +13,14 @@ loop-place-init c =
     (ap (λ (h : Happening Host). h.part) start, ap (λ (h : Happening Host). c.ask_internal.new.self.told ++ h.entries) start, omega arith, λ had. had)
 
 pub loop-place-preserved : goal.loop-place-preserved
-loop-place-preserved c =
-    (c.loop-place.invariant.0
-    ∙ part_next c.loop-place.self.host c.hear_change.new.self.host c.change_at.result (reply_bytes c.args.reply.now) c.loop-place.place c.count_changes-place-end.result c.loop-place-test.true c.change_at.ensures c.hear_change.ensures.host,
-    c.loop-place.invariant.1
-    ∙ told_next c.loop-place.self.host c.hear_change.new.self.host c.loop-place.self.told c.hear_change.new.self.told c.change_at.result (reply_bytes c.args.reply.now) c.loop-place.place c.count_changes-place-end.result c.loop-place-test.true c.change_at.ensures c.hear_change.ensures.host c.hear_change.ensures.told,
-    omega (arith, c.loop-place.invariant.2, c.hear_change.ensures.room),
-    λ had. c.hear_change.ensures.numbers (c.loop-place.invariant.3 had))
+loop-place-preserved c = (
+  c.loop-place.invariant.0
+      ∙ part_next c.loop-place.self.host c.hear_change.new.self.host c.change_at.result (reply_bytes c.args.reply.now) c.loop-place.place c.count_changes-place-end.result c.loop-place-test.true c.change_at.ensures c.hear_change.ensures.host,
+  c.loop-place.invariant.1
+      ∙ told_next c.loop-place.self.host c.hear_change.new.self.host c.loop-place.self.told c.hear_change.new.self.told c.change_at.result (reply_bytes c.args.reply.now) c.loop-place.place c.count_changes-place-end.result c.loop-place-test.true c.change_at.ensures c.hear_change.ensures.host c.hear_change.ensures.told,
+  omega (arith, c.loop-place.invariant.2, c.hear_change.ensures.room),
+  λ had. c.hear_change.ensures.numbers (c.loop-place.invariant.3 had),
+)
 
 pub hear_change-requires : goal.hear_change-requires
 hear_change-requires c = omega (arith, c.requires, c.ask_internal.ensures.room, c.loop-place.invariant.2, c.loop-place-test.true, c.count_changes-place-end.ensures.most)

@@ -1,4 +1,3 @@
-use Rattle.std.proofs.Common.{◌≡◌, refl}
 use Rattle.host_core.proofs.host.Host.target_reset.Goals as goal
 
 pub returns-clause-ok : goal.returns-clause-ok

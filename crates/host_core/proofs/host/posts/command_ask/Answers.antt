@@ -1,4 +1,4 @@
-use Rattle.std.proofs.Common.{◌≡◌, ◌∙◌, ℕ, ◌-◌, ◌++◌, [], ◌∷◌, List, length, drop, replicate, refl, sym, ap, true, false}
+use Rattle.std.proofs.Common.{◌≡◌, ◌∙◌, ℕ, ◌++◌, length, drop, replicate, refl, sym, true, false}
 use Rattle.std.proofs.lemmas.List.{drop-replicate}
 use Rattle.mpt_rules.specs.Host.Posts.{is_data_to_disk, padded_cdb}
 use Rattle.host_core.proofs.Commands.{is_command, sends_data, sends_no_data}

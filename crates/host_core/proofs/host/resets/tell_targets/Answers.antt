@@ -1,4 +1,4 @@
-use Rattle.std.proofs.Common.{◌≡◌, ◌∙◌, ◌<◌, length, refl, ap, append_assoc, arith}
+use Rattle.std.proofs.Common.{◌∙◌, ◌<◌, length, refl, ap, append_assoc, arith}
 use Rattle.host_tables.specs.Lists.{Lists}
 use Rattle.host_core.proofs.Resets.{targets-more}
 use Rattle.host_core.proofs.host.resets.tell_targets.Goals as goal
