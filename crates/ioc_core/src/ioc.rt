@@ -12,8 +12,8 @@ use mpt_rules::OutOfMemory;
 use std::alloc::Global;
 use std::marker::Model;
 
-// The context of the first event.
-const FIRST_CONTEXT: u32 = 1;
+/// The context of the first event.
+pub(crate) const FIRST_CONTEXT: u32 = 1;
 
 /// A controller.
 #[derive(Drop)]

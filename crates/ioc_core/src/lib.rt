@@ -7,11 +7,21 @@
 
 mod answers;
 mod disks;
+mod down;
+mod fields;
 mod free_frames;
+mod handshakes;
 mod ioc;
 mod lists;
+mod place;
+mod places;
+mod posts;
+mod registers;
+mod resets;
+mod sending;
 #[cfg(test)]
 mod tests;
 
 pub use ioc::Ioc;
+pub use place::IocPlace;
 pub use mpt_rules::{Binding, NoRoom, OutOfMemory};
