@@ -1,13 +1,16 @@
 -- The reply frames that the controller may use are 64 at most, so that the ring of 80 is never full.
 use Rattle.std.proofs.Common.{◌≡◌, ◌≢◌, ◌∙◌, ℕ, zero, suc, ◌+◌, ◌≤◌, ◌<◌, Bool, true, false, ◌&&◌, ◌||◌, cond, eqb, ltb, nat_lt, List, [], ◌∷◌, ◌++◌, drop, length, count_by, refl, sym, ap, inl, inr, arith}
 use Rattle.std.specs.List.{list_all, list_any}
-use Rattle.std.proofs.lemmas.Bool.{cases_eq}
+use Rattle.std.specs.Cmp.{IsEquivalence}
+use Rattle.std.specs.Prelude.{◌↔◌, Contains, IsTrue}
+use Rattle.std.proofs.lemmas.Bool.{cases_Bool, cases_eq}
 use Rattle.std.proofs.lemmas.Bool.Decides.{nat_tests}
 use Rattle.std.proofs.lemmas.List.Folds.{list_all-append}
 use Rattle.std.proofs.lemmas.List.Sums.{sum_by_push}
+use Rattle.std.proofs.lemmas.Map.Views.{Contains-from_any, list_any-from_Contains}
 use Rattle.ioc_tables.specs.CommandCounts.{one_if}
 use Rattle.ioc_tables.proofs.Counts.{has_counted}
-use Rattle.ioc_tables.proofs.Numbers.{both_hold, eqb_apart, eqb_itself}
+use Rattle.ioc_tables.proofs.Numbers.{both_hold, eqb_apart, eqb_itself, eqb_same}
 use Rattle.ioc_tables.proofs.Short.{all_counted, count-cons, count_split, none_counted}
 use Rattle.ioc_core.specs.FreeFrames.{AreFreeFrames, is_frame}
 
@@ -73,3 +76,24 @@ frame_taken (x ∷ xs) are =
 -- none are there
 pub no_frames : AreFreeFrames []
 no_frames = record { known = refl; once = λ other. omega arith }
+
+-- ---- a frame that is looked for
+
+abbrev flipped : ℕ → ℕ → Bool
+flipped a b = eqb b a
+
+flipped_equivalence : IsEquivalence flipped
+flipped_equivalence =
+    record {
+      refl = λ x. eqb_itself x;
+      symm = λ x y. grind (arith, nat_tests);
+      congr = λ x y z same. rw (eqb_same y x same) refl;
+    }
+
+pub has_is_any : (found : Bool) (frames : List ℕ) (frame : ℕ) → (IsTrue found ↔ Contains frames frame) → found ≡ list_any (λ f. eqb f frame) frames
+has_is_any true frames frame is = sym (list_any-from_Contains flipped_equivalence frame frames (is.0 refl))
+has_is_any false frames frame is =
+    elim (cases_Bool (list_any (flipped frame) frames)) [
+      | inl there ↦ absurd (let has : false ≡ true = is.1 (Contains-from_any {eq = flipped} (λ x y same. sym (eqb_same y x same)) frame frames there) in cc)
+      | inr isnt ↦ sym isnt
+    ]

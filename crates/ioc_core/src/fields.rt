@@ -1,5 +1,5 @@
 //! The fields of descriptors and messages.
-ghost use Rattle.std.specs.Prelude.{◌≡◌, ◌<◌};
+ghost use Rattle.std.specs.Prelude.{◌≡◌, ◌<◌, slice_index};
 ghost use Rattle.mpi_layout.specs.Rows.{field};
 ghost use Rattle.mpt_wire.specs.Messages.Fields.{kind_in};
 
@@ -11,12 +11,11 @@ use mpi_rings::PostKind;
 
 /// The byte at an offset: 0 past the end.
 pub fn byte_at(bytes: &[u8], at: u16) -> u8
-    ensures { result ≡ field bytes.now at 1 }
+    ensures byte { result ≡ slice_index bytes.now at }
+    ensures field { result ≡ field bytes.now at 1 }
 {
-    match bytes.get(usize::from(at)) {
-        Some(byte) => *byte,
-        None => 0,
-    }
+    let place = usize::from(at);
+    if place < bytes.len() { bytes[place] } else { 0 }
 }
 
 /// The little-endian number of two bytes at an offset. Those past the end count as 0.
@@ -25,14 +24,6 @@ pub fn word_at(bytes: &[u8], at: u16) -> u16
     ensures { result ≡ field bytes.now at 2 }
 {
     u16::from(byte_at(bytes, at)) + 0x100 * u16::from(byte_at(bytes, at + 1))
-}
-
-/// The little-endian number of four bytes at an offset. Those past the end count as 0.
-pub fn dword_at(bytes: &[u8], at: u16) -> u32
-    requires { at < 126 }
-    ensures { result ≡ field bytes.now at 4 }
-{
-    u32::from(word_at(bytes, at)) + 0x1_0000 * u32::from(word_at(bytes, at + 2))
 }
 
 /// The kind of a request descriptor, by its flags. None exactly where they are of none.

@@ -1,5 +1,5 @@
 //! Handshakes at the doorbell: IOC Facts, Port Facts, IOC Init.
-ghost use Rattle.std.specs.Prelude.{◌≡◌, ◌≤◌, option_map};
+ghost use Rattle.std.specs.Prelude.{◌≡◌, ◌≤◌, option_map, slice_index};
 ghost use Rattle.mpi_doorbell.specs.Handshake.{IsAsked};
 ghost use Rattle.mpt_messages.specs.Fault.{message_fault};
 ghost use Rattle.mpt_messages.specs.Function.{byte_of, function_of};
@@ -8,7 +8,7 @@ ghost use Rattle.mpt_messages.specs.Refusal.{request_fault, request_refusal_as};
 ghost use Rattle.mpt_messages.specs.declared.function.Function.TheVariants as function;
 ghost use Rattle.mpt_messages.specs.declared.function.Kind.TheVariants as kind;
 ghost use Rattle.mpt_messages.specs.declared.ioc_reply.IocReply.TheVariants as reply;
-ghost use Rattle.mpi_layout.specs.Rows.{field};
+ghost use Rattle.mpt_wire.specs.Messages.Fields.{port_number_in};
 ghost use Rattle.mpt_rules.specs.Ioc.Parts.{ioc_queue_count, state_of};
 ghost use Rattle.mpt_rules.specs.Ioc.Registers.{answers_handshake, ends_init, handshakes, init_status, inits, operates, port_facts_status, serves_handshake, sizes_fit, vectors_fit};
 ghost use Rattle.mpt_rules.specs.Ioc.Replies.{refusal_status};
@@ -33,8 +33,11 @@ const PORT_NUMBER: u16 = 0x06;
 // IOC Init: HostMSIxVectors, SystemRequestFrameSize, ReplyDescriptorPostQueueDepth and ReplyFreeQueueDepth (mpi2_ioc.h,
 // MPI2_IOC_INIT_REQUEST).
 const HOST_MSIX_VECTORS: u16 = 0x17;
+
 const REQUEST_FRAME_SIZE: u16 = 0x1a;
+
 const REPLY_POST_QUEUE_DEPTH: u16 = 0x1c;
+
 const REPLY_FREE_QUEUE_DEPTH: u16 = 0x1e;
 
 impl Ioc {
@@ -53,7 +56,7 @@ impl Ioc {
     // A handshake's message that stands for one is answered; only three functions travel by the doorbell.
     fn serve_handshake(&mut self, message: &[u8])
         requires { IsAsked self.old.part.door.handshake }
-        ensures part { self.new.part ≡ serves_handshake self.old.part message.now (function_of (field message.now 0x03 1)) }
+        ensures part { self.new.part ≡ serves_handshake self.old.part message.now (function_of (slice_index message.now 3)) }
         ensures told { self.new.told ≡ self.old.told }
     {
         let function = byte_at(message, FUNCTION);
@@ -108,15 +111,11 @@ impl Ioc {
     // Port Facts: there is port 0 alone.
     fn give_port_facts(&mut self, message: &[u8])
         requires { IsAsked self.old.part.door.handshake }
-        ensures part { self.new.part ≡ answers_handshake self.old.part (reply.PortFacts (field message.now 0x06 1) (port_facts_status message.now)) }
+        ensures part { self.new.part ≡ answers_handshake self.old.part (reply.PortFacts (port_number_in message.now) (port_facts_status message.now)) }
         ensures told { self.new.told ≡ self.old.told }
     {
         let port = byte_at(message, PORT_NUMBER);
-        let status = if port == 0 {
-            IOC_STATUS_SUCCESS
-        } else {
-            IOC_STATUS_INVALID_FIELD
-        };
+        let status = port_facts_status(message);
         self.answer_handshake(IocReply::PortFacts { port, status });
     }
 
@@ -171,6 +170,17 @@ impl Ioc {
     }
 }
 
+// The IOCStatus of Port Facts: there is port 0 alone.
+fn port_facts_status(message: &[u8]) -> u16
+    ensures { result ≡ port_facts_status message.now }
+{
+    if byte_at(message, PORT_NUMBER) == 0 {
+        IOC_STATUS_SUCCESS
+    } else {
+        IOC_STATUS_INVALID_FIELD
+    }
+}
+
 // Whether the sizes in an IOC Init are the profile's.
 fn sizes_fit(message: &[u8]) -> bool
     ensures { result ≡ sizes_fit message.now }
@@ -182,7 +192,7 @@ fn sizes_fit(message: &[u8]) -> bool
 
 // The IOCStatus of the first refusal of a handshake's message. None where it stands for one.
 fn handshake_refusal(message: &[u8]) -> Option<u16>
-    ensures { result ≡ option_map refusal_status (request_refusal_as kind.Handshake message.now (function_of (field message.now 0x03 1))) }
+    ensures { result ≡ option_map refusal_status (request_refusal_as kind.Handshake message.now (function_of (slice_index message.now 3))) }
 {
     match Function::from_byte(byte_at(message, FUNCTION)) {
         Some(Function::IocInit) => init_refusal(message),

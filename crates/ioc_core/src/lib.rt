@@ -23,5 +23,5 @@ mod sending;
 mod tests;
 
 pub use ioc::Ioc;
-pub use place::IocPlace;
 pub use mpt_rules::{Binding, NoRoom, OutOfMemory};
+pub use place::IocPlace;

@@ -17,7 +17,9 @@ use mpt_trace::Smid;
 // The codes of FAULT: a post of no kind or whose identifier isn't of its kind's class; one whose identifier the
 // controller still has to answer; a return of what is no frame, or of a frame that the controller has.
 const BAD_POST: u16 = 3;
+
 const IDENTIFIER_IN_USE: u16 = 4;
+
 const BAD_RETURN: u16 = 5;
 
 impl Ioc {
