@@ -1,5 +1,5 @@
 //! The reply frames that the controller may use.
-ghost use Rattle.std.specs.Prelude.{◌≡◌, ◌<◌, ◌++◌, ◌∷◌, [], IfOk, drop, false, slice_get};
+ghost use Rattle.std.specs.Prelude.{◌≡◌, ◌<◌, ◌++◌, ◌∷◌, ◌==◌, [], IfOk, drop, false, slice_get};
 ghost use Rattle.std.specs.List.{list_any};
 ghost use Rattle.ioc_core.specs.FreeFrames.{is_frame};
 

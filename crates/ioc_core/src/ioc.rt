@@ -12,8 +12,8 @@ use mpt_rules::OutOfMemory;
 use std::alloc::Global;
 use std::marker::Model;
 
-// The context of the first event.
-const FIRST_CONTEXT: u32 = 1;
+/// The context of the first event.
+pub(crate) const FIRST_CONTEXT: u32 = 1;
 
 /// A controller.
 #[derive(Drop)]
@@ -35,9 +35,13 @@ pub struct Ioc {
 }
 
 impl Model for Ioc {
+    ghost use Rattle.std.specs.Coded.{codes};
+    ghost use Rattle.std.specs.FinSet as set;
     ghost use Rattle.ioc_core.specs.Seen.{HasFewExpanders, IocSeen};
 
     ghost Value = { IocSeen };
+
+    ghost coded = { Prim.hlevel (codes, set.code) };
 
     ghost view = { λ i. record {
       part = record {
