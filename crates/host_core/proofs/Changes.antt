@@ -6,7 +6,7 @@ use Rattle.mpt_rules.specs.Outcome.{Happening}
 use Rattle.mpt_rules.specs.declared.request.Request.TheVariants as request
 use Rattle.mpt_rules.specs.Host.Parts.{Host}
 use Rattle.mpt_rules.specs.Host.Posts.{asks_internal}
-use Rattle.mpt_rules.specs.Host.Removal.{after_told, hears_change, hears_changes, hears_event, quietly}
+use Rattle.mpt_rules.specs.Host.Removal.{after_told, hears_change, hears_changes, quietly}
 use Rattle.host_reading.specs.Changes.{IsCount, beyond}
 use Rattle.host_reading.proofs.Listed.{change_next}
 
@@ -79,9 +79,7 @@ pub no_more : (told : List Entry) → told ++ [] ≡ told
 no_more [] = refl
 no_more (e ∷ es) = ap (λ rest. e ∷ rest) (no_more es)
 
--- an event is acknowledged, and then its changes are heard
-pub event_heard : (host acked : Host) (frame : List ℕ) (event context end : ℕ) → acked ≡ asks_internal host (request.Ack event context) → event ≡ event_in frame → context ≡ event_context_in frame → IsCount end frame → hears_event host frame ≡ hears_changes acked (changes_from frame 0x28 end)
-event_heard host acked frame event context end is event_is context_is count =
-    let acks : Host = asks_internal host (request.Ack (event_in frame) (event_context_in frame)) in
-    let same : acked ≡ acks = is ∙ ap (λ e. asks_internal host (request.Ack e context)) event_is ∙ ap (λ x. asks_internal host (request.Ack (event_in frame) x)) context_is in
-    hears_counted acks frame end count ∙ ap (λ h. hears_changes h (changes_from frame 0x28 end)) (sym same)
+-- an event is acknowledged
+pub acknowledged : (host acked : Host) (frame : List ℕ) (event context : ℕ) → acked ≡ asks_internal host (request.Ack event context) → event ≡ event_in frame → context ≡ event_context_in frame → acked ≡ asks_internal host (request.Ack (event_in frame) (event_context_in frame))
+acknowledged host acked frame event context is event_is context_is =
+    is ∙ ap (λ e. asks_internal host (request.Ack e context)) event_is ∙ ap (λ x. asks_internal host (request.Ack (event_in frame) x)) context_is

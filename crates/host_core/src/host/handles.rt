@@ -4,7 +4,8 @@ ghost use Rattle.std.specs.Prelude.{◌≡◌, ◌≤◌, ◌+◌, ◌++◌, IsT
 ghost use Rattle.smid_pool.specs.Pool.{is_open, slot_of};
 ghost use Rattle.removal.specs.Handles.{phase_at};
 ghost use Rattle.host_tables.specs.Slots.{IsInternalSmid};
-ghost use Rattle.mpt_rules.specs.Host.Removal.{after_handle_added, after_handle_lost, begins_removal, hears_change, hears_event, left, lost_told, ready_told, reads_page, removed};
+ghost use Rattle.mpt_wire.specs.Messages.Fields.{changes_in};
+ghost use Rattle.mpt_rules.specs.Host.Removal.{after_handle_added, after_handle_lost, begins_removal, hears_change, hears_changes, hears_event, left, lost_told, ready_told, reads_page, removed};
 ghost use Rattle.mpt_rules.specs.Host.Replies.{reply_bytes};
 
 use super::Host;
@@ -15,7 +16,7 @@ use mpt_trace::{Address, Entry, Handle, Smid};
 use removal::Phase;
 
 impl Host {
-    // An event is acknowledged, whatever it is, and then its changes are heard, one after the other.
+    // An event is acknowledged, whatever it is, and then its changes are heard.
     pub(crate) fn hear_event(&mut self, reply: &HeardReply)
         requires { 45 ≤ self.old.room }
         ensures host { self.new.host ≡ (hears_event self.old.host (reply_bytes reply.now)).part }
@@ -28,6 +29,18 @@ impl Host {
             context: reply.event_context(),
         };
         self.ask_internal(ack);
+        self.hear_changes(reply);
+    }
+
+    // The changes of an event are heard, one after the other. Those for which its frame has no room
+    // would cause nothing.
+    fn hear_changes(&mut self, reply: &HeardReply)
+        requires { 44 ≤ self.old.room }
+        ensures host { self.new.host ≡ (hears_changes self.old.host (changes_in (reply_bytes reply.now))).part }
+        ensures told { self.new.told ≡ self.old.told ++ (hears_changes self.old.host (changes_in (reply_bytes reply.now))).entries }
+        ensures room { self.old.room ≤ self.new.room + 44 }
+        ensures numbers { self.old.has_number_room ≡ true → self.new.has_number_room ≡ true }
+    {
         for place in 0..reply.count_changes() {
             self.hear_change(reply.change_at(place));
         }

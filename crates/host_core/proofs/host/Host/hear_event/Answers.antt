@@ -1,48 +1,18 @@
-use Rattle.std.proofs.Common.{◌≡◌, ◌∙◌, ◌+◌, ◌*◌, ◌-◌, ◌++◌, sym, ap, arith}
-use Rattle.mpt_wire.specs.Messages.Fields.{changes_from}
-use Rattle.mpt_rules.specs.Outcome.{Happening}
-use Rattle.mpt_rules.specs.Host.Parts.{Host}
-use Rattle.mpt_rules.specs.Host.Removal.{hears_changes, hears_event, quietly}
+use Rattle.std.proofs.Common.{◌∙◌, ◌++◌, ap}
+use Rattle.mpt_wire.specs.Messages.Fields.{changes_in}
+use Rattle.mpt_rules.specs.Host.Removal.{hears_changes}
 use Rattle.mpt_rules.specs.Host.Replies.{reply_bytes}
-use Rattle.host_core.proofs.Changes.{event_heard, heard_end, heard_from, heard_start, no_more, part_next, told_next}
+use Rattle.host_core.proofs.Changes.{acknowledged}
 use Rattle.host_core.proofs.host.Host.hear_event.Goals as goal
-
-pub loop-place-init : goal.loop-place-init
-loop-place-init c =
-    let start = heard_start c.ask_internal.new.self.host (reply_bytes c.args.reply.now) c.count_changes-place-end.result in
-    (ap (λ (h : Happening Host). h.part) start, ap (λ (h : Happening Host). c.ask_internal.new.self.told ++ h.entries) start, omega arith, λ had. had)
-
-pub loop-place-preserved : goal.loop-place-preserved
-loop-place-preserved c = (
-  c.loop-place.invariant.0
-      ∙ part_next c.loop-place.self.host c.hear_change.new.self.host c.change_at.result (reply_bytes c.args.reply.now) c.loop-place.place c.count_changes-place-end.result c.loop-place-test.true c.change_at.ensures c.hear_change.ensures.host,
-  c.loop-place.invariant.1
-      ∙ told_next c.loop-place.self.host c.hear_change.new.self.host c.loop-place.self.told c.hear_change.new.self.told c.change_at.result (reply_bytes c.args.reply.now) c.loop-place.place c.count_changes-place-end.result c.loop-place-test.true c.change_at.ensures c.hear_change.ensures.host c.hear_change.ensures.told,
-  omega (arith, c.loop-place.invariant.2, c.hear_change.ensures.room),
-  λ had. c.hear_change.ensures.numbers (c.loop-place.invariant.3 had),
-)
-
-pub hear_change-requires : goal.hear_change-requires
-hear_change-requires c = omega (arith, c.requires, c.ask_internal.ensures.room, c.loop-place.invariant.2, c.loop-place-test.true, c.count_changes-place-end.ensures.most)
 
 pub returns-clause-host : goal.returns-clause-host
 returns-clause-host c =
-    let heard = event_heard c.args.self.now.host c.ask_internal.new.self.host (reply_bytes c.args.reply.now) c.event.result c.event_context.result c.count_changes-place-end.result c.ask_internal.ensures.host c.event.ensures c.event_context.ensures c.count_changes-place-end.ensures.count in
-    let end = heard_end c.loop-place.self.host (reply_bytes c.args.reply.now) c.loop-place.place c.count_changes-place-end.result (omega arith) in
-    sym (ap (λ (h : Happening Host). h.part) heard ∙ c.loop-place.invariant.0 ∙ ap (λ (h : Happening Host). h.part) end)
+    let acked = acknowledged c.args.self.now.host c.ask_internal.new.self.host (reply_bytes c.args.reply.now) c.event.result c.event_context.result c.ask_internal.ensures.host c.event.ensures c.event_context.ensures in
+    c.hear_changes.ensures.host ∙ ap (λ h. (hears_changes h (changes_in (reply_bytes c.args.reply.now))).part) acked
 
 pub returns-clause-told : goal.returns-clause-told
 returns-clause-told c =
-    let heard = event_heard c.args.self.now.host c.ask_internal.new.self.host (reply_bytes c.args.reply.now) c.event.result c.event_context.result c.count_changes-place-end.result c.ask_internal.ensures.host c.event.ensures c.event_context.ensures c.count_changes-place-end.ensures.count in
-    let end = heard_end c.loop-place.self.host (reply_bytes c.args.reply.now) c.loop-place.place c.count_changes-place-end.result (omega arith) in
-    sym (ap (λ (h : Happening Host). c.args.self.now.told ++ h.entries) heard
-    ∙ ap (λ told. told ++ (hears_changes c.ask_internal.new.self.host (changes_from (reply_bytes c.args.reply.now) 0x28 c.count_changes-place-end.result)).entries) (sym c.ask_internal.ensures.told)
-    ∙ c.loop-place.invariant.1
-    ∙ ap (λ (h : Happening Host). c.loop-place.self.told ++ h.entries) end
-    ∙ no_more c.loop-place.self.told)
-
-pub returns-clause-room : goal.returns-clause-room
-returns-clause-room c = omega (arith, c.ask_internal.ensures.room, c.loop-place.invariant.2, c.count_changes-place-end.ensures.most, c.loop-place.auto.place-end)
-
-pub returns-clause-numbers : goal.returns-clause-numbers
-returns-clause-numbers c = λ had. c.loop-place.invariant.3 (c.ask_internal.ensures.numbers ∙ had)
+    let acked = acknowledged c.args.self.now.host c.ask_internal.new.self.host (reply_bytes c.args.reply.now) c.event.result c.event_context.result c.ask_internal.ensures.host c.event.ensures c.event_context.ensures in
+    c.hear_changes.ensures.told
+    ∙ ap (λ told. told ++ (hears_changes c.ask_internal.new.self.host (changes_in (reply_bytes c.args.reply.now))).entries) c.ask_internal.ensures.told
+    ∙ ap (λ h. c.args.self.now.told ++ (hears_changes h (changes_in (reply_bytes c.args.reply.now))).entries) acked

@@ -3,7 +3,7 @@ use Rattle.mpt_wire.specs.Messages.Fields.{changes_from}
 use Rattle.mpt_rules.specs.Host.Removal.{hears_changes}
 use Rattle.mpt_rules.specs.Host.Replies.{reply_bytes}
 use Rattle.host_core.proofs.Changes.{heard_from}
-use Rattle.host_core.proofs.host.Host.hear_event.Given as goal
+use Rattle.host_core.proofs.host.Host.hear_changes.Given as goal
 
 abbrev pub invariant-loop-place : goal.invariant-loop-place
 invariant-loop-place l =
