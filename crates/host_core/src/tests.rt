@@ -1,6 +1,6 @@
 //! Worked calls of the host.
 use crate::{Host, HostFault, HostFrame, HostSmid};
-use mpt_trace::{Address, Down, HostState};
+use mpt_trace::Address;
 use removal::Phase;
 use scsi_disk::{Bytes, Cdb, Command};
 use std::alloc::Global;
@@ -31,20 +31,6 @@ fn a_new_host_refuses(rt: HostRuntime) -> Result<(), Fail> {
     assert_eq!(rt; host.diag_reset(), Err(HostFault::NotStarted));
     assert_eq!(rt; host.unit_reset(), Err(HostFault::NotOperational));
     assert!(rt; !host.waits());
-    Ok(())
-}
-
-#[test]
-fn a_start_reads_the_doorbell(rt: HostRuntime) -> Result<(), Fail> {
-    let mut host = Host::with_queues(rt.alloc(), 2)?;
-    assert_eq!(rt; host.start(), Ok(()));
-    assert_eq!(rt; host.start(), Err(HostFault::AlreadyStarted));
-    assert!(rt; matches!(host.state(), HostState::Starting));
-    assert!(rt; matches!(host.front_down(), Some(Down::Read { reg: 0 })));
-    assert!(rt; host.waits());
-    assert_eq!(rt; host.diag_reset(), Ok(()));
-    assert_eq!(rt; host.diag_reset(), Err(HostFault::AlreadyResetting));
-    assert!(rt; matches!(host.answers(), None));
     Ok(())
 }
 
