@@ -1,0 +1,4 @@
+pub mod Accepted
+pub mod Named
+mod Pages
+mod Transfers

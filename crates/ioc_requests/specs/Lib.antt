@@ -1,0 +1,2 @@
+-- What the contracts of the requests say.
+pub mod Asked
