@@ -1,3 +1,11 @@
-pub mod Answered
-pub mod FewFrames
-pub mod FieldBytes
+mod Answered
+mod Controls
+mod DiskLists
+mod Events
+mod FewFrames
+mod FieldBytes
+mod FrontRead
+mod Played
+mod Puts
+mod Results
+mod Works

@@ -6,7 +6,7 @@ use Rattle.mpt_rules.specs.declared.binding.Binding.{Binding}
 use Rattle.mpt_rules.specs.declared.binding.Binding.TheVariants as binding
 use Rattle.mpt_rules.specs.declared.binding.Waiting.{Waiting}
 use Rattle.mpt_rules.specs.Ioc.Bindings.{waits_at}
-use Rattle.ioc_tables.specs.Bindings.{handle_for}
+use Rattle.ioc_tables.specs.Bindings.{binding_at, handle_for}
 
 pub record DisksSeen : Type 0 where
   pub bindings : List Binding
@@ -27,5 +27,5 @@ pub record AreDisks (bindings : List Binding) (waiting : List Waiting) : Type 0 
   pub unbound : (address : ℕ) → list_any (waits_at address) waiting ≡ true → handle_for address bindings ≡ None
   -- and its address waits once
   pub once : (address : ℕ) → count_by (waits_at address) waiting ≤ 1
-  pub bound_placed : list_all is_placed bindings ≡ true
+  pub bound_placed : (handle : ℕ) → is_placed (binding_at bindings handle) ≡ true
   pub waiting_placed : list_all waits_placed waiting ≡ true

@@ -1,6 +1,7 @@
 -- The lists of a controller that grow: what waits for the lanes, what it tells, and the target resets that wait for the
 -- last command of their handle.
-use Rattle.std.specs.Prelude.{ℕ, ◌+◌, ◌≤◌, List, [], ◌∷◌, filter, map}
+use Rattle.std.specs.Prelude.{ℕ, ◌+◌, ◌≤◌, List, [], ◌∷◌, ◌++◌, filter, map, slice_set}
+use Rattle.ioc_replies.specs.Outboxes.{waiting_for}
 use Rattle.std.specs.declared.collections.VecDeque.{VecDeque}
 use Rattle.std.specs.VecDeque.{deque_capacity, deque_len}
 use Rattle.mpt_trace.specs.declared.entry.Entry.{Entry}
@@ -43,3 +44,7 @@ after_renewal generation lists =
       held = [];
       room = 0;
     }
+
+-- items go behind what waits for a reply queue
+abbrev pub after_puts : ℕ → List Said → List (List Said) → List (List Said)
+after_puts queue items boxes = slice_set boxes queue (waiting_for queue boxes ++ items)

@@ -17,7 +17,7 @@ impl Ioc {
         ensures part { OnOk result (self.new.part ≡ (takes_down self.old.part item).part) }
         ensures told { OnOk result (self.new.told ≡ self.old.told ++ (takes_down self.old.part item).entries) }
         ensures stays { OnErr result (self.new.part ≡ self.old.part) }
-        ensures stays_told { OnErr result (self.new.told ≡ self.old.told) }
+        ensures silent { OnErr result (self.new.told ≡ self.old.told) }
         ensures returned { IfErr result (λ e. e.item ≡ item) }
         ensures sure { is_sure item ≡ true → IsOk result }
     {

@@ -1,13 +1,6 @@
-//! The fields of descriptors and messages.
+//! The fields of messages.
 ghost use Rattle.std.specs.Prelude.{◌≡◌, ◌<◌, slice_index};
 ghost use Rattle.mpi_layout.specs.Rows.{field};
-ghost use Rattle.mpt_wire.specs.Messages.Fields.{kind_in};
-
-use mpi_names::{
-    MPI2_REQ_DESCRIPT_FLAGS_DEFAULT_TYPE, MPI2_REQ_DESCRIPT_FLAGS_HIGH_PRIORITY,
-    MPI2_REQ_DESCRIPT_FLAGS_SCSI_IO,
-};
-use mpi_rings::PostKind;
 
 /// The byte at an offset: 0 past the end.
 pub fn byte_at(bytes: &[u8], at: u16) -> u8
@@ -24,16 +17,4 @@ pub fn word_at(bytes: &[u8], at: u16) -> u16
     ensures { result ≡ field bytes.now at 2 }
 {
     u16::from(byte_at(bytes, at)) + 0x100 * u16::from(byte_at(bytes, at + 1))
-}
-
-/// The kind of a request descriptor, by its flags. None exactly where they are of none.
-pub fn kind_in(descriptor: u64) -> Option<PostKind>
-    ensures { result ≡ kind_in descriptor }
-{
-    match (descriptor % 0x100) as u8 {
-        MPI2_REQ_DESCRIPT_FLAGS_SCSI_IO => Some(PostKind::ScsiIo),
-        MPI2_REQ_DESCRIPT_FLAGS_HIGH_PRIORITY => Some(PostKind::HighPriority),
-        MPI2_REQ_DESCRIPT_FLAGS_DEFAULT_TYPE => Some(PostKind::Default),
-        _ => None,
-    }
 }

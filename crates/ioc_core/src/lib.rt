@@ -6,6 +6,9 @@
 #![tactic(auto)]
 
 mod answers;
+mod back;
+mod commands;
+mod configuration;
 mod disks;
 mod down;
 mod fields;
@@ -13,15 +16,23 @@ mod free_frames;
 mod handshakes;
 mod ioc;
 mod lists;
+mod moves;
 mod place;
 mod places;
+mod playing;
+mod plugs;
 mod posts;
 mod registers;
+mod requests;
 mod resets;
 mod sending;
+mod steps;
+mod tasks;
 #[cfg(test)]
 mod tests;
 
 pub use ioc::Ioc;
+pub use moves::{IocMove, IocSaid, IocTalk};
 pub use mpt_rules::{Binding, NoRoom, OutOfMemory};
 pub use place::IocPlace;
+pub use playing::play;

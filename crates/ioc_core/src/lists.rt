@@ -1,14 +1,17 @@
 //! The lists of a controller that grow.
-ghost use Rattle.std.specs.Prelude.{◌≡◌, ◌≤◌, ◌<◌, ◌-◌, ◌++◌, ◌∷◌, [], IfOk, OnOk, drop, length, option_copied, replicate, slice_get, slice_set};
+ghost use Rattle.std.specs.Prelude.{◌≡◌, ◌≤◌, ◌<◌, ◌-◌, ◌++◌, ◌∷◌, [], IfOk, OnOk, drop, filter, length, map, not, option_copied, replicate, slice_get, slice_set};
 ghost use Rattle.std.specs.List.{list_all, list_any};
 ghost use Rattle.mpt_rules.specs.Ioc.Places.{is_empty, is_reply_of};
 ghost use Rattle.mpt_rules.specs.Ioc.Tables.{is_held_as};
 ghost use Rattle.ioc_replies.specs.Outboxes.{after_put, waiting_for};
-ghost use Rattle.ioc_core.specs.Lists.{after_renewal, lists_of};
+ghost use Rattle.mpt_rules.specs.Ioc.Commands.{held_answered, is_held_for};
+ghost use Rattle.ioc_core.specs.Lists.{after_puts, after_renewal, lists_of};
 
-use ioc_replies::{MAX_QUEUES, Outboxes};
-use mpt_rules::{HeldReset, OutOfMemory, Said};
-use mpt_trace::{Entry, Out, Smid};
+use ioc_replies::{MAX_QUEUES, Outboxes, framed};
+use mpi_names::MPI2_SCSITASKMGMT_TASKTYPE_TARGET_RESET;
+use mpt_messages::IocReply;
+use mpt_rules::{HeldReset, IOC_STATUS_SUCCESS, OutOfMemory, Said};
+use mpt_trace::{Entry, Handle, Out, Smid};
 use std::alloc::Global;
 use std::collections::VecDeque;
 use std::marker::Model;
@@ -169,6 +172,19 @@ impl IocLists {
         self.told.pop_front()
     }
 
+    /// The target resets that wait for the handle are answered on queue 0, the first processed first. There is room.
+    pub fn answer_held(&mut self, alloc: Global, handle: Handle)
+        requires { length self.old.held ≤ self.old.room }
+        ensures up { self.new.up ≡ after_puts 0 (map held_answered (filter (is_held_for handle) self.old.held)) self.old.up }
+        ensures held { self.new.held ≡ filter (λ held. not (is_held_for handle held)) self.old.held }
+        ensures out { self.new.out ≡ self.old.out }
+        ensures told { self.new.told ≡ self.old.told }
+    {
+        self.room = 0;
+        put_answers(alloc, handle, &self.held, &mut self.up);
+        self.held.retain(|held| held.handle != handle);
+    }
+
     /// Whether a target reset of the identifier waits.
     pub fn has_held(&self, smid: Smid) -> bool
         ensures { result ≡ list_any (is_held_as smid) self.now.held }
@@ -210,4 +226,31 @@ impl IocLists {
     {
         self.held.is_empty()
     }
+}
+
+// The answers to the target resets that wait for the handle are put on queue 0, the first processed first. There is room.
+fn put_answers(alloc: Global, handle: Handle, held: &VecDeque<HeldReset>, up: &mut Outboxes)
+    requires { length held.now.items ≤ up.old.room }
+    ensures { up.new.boxes ≡ after_puts 0 (map held_answered (filter (is_held_for handle) held.now.items)) up.old.boxes }
+{
+    for i in 0..held.len() {
+        let reset = held[i];
+        if reset.handle == handle {
+            up.put(0, held_answered(alloc, reset));
+        }
+    }
+}
+
+// The answer to a target reset that ended no command.
+fn held_answered(alloc: Global, held: HeldReset) -> Said
+    ensures { result ≡ held_answered held }
+{
+    let reply = IocReply::Task {
+        handle: held.handle,
+        task_type: MPI2_SCSITASKMGMT_TASKTYPE_TARGET_RESET,
+        status: IOC_STATUS_SUCCESS,
+        code: 0,
+        count: 0,
+    };
+    framed(alloc, held.smid, reply)
 }

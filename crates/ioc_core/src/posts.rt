@@ -6,8 +6,8 @@ ghost use Rattle.mpt_rules.specs.Ioc.Tables.{is_at_fabric, is_unanswered};
 ghost use Rattle.mpt_rules.specs.Ioc.Takes.{posts_if_operational, returns_if_operational};
 ghost use Rattle.ioc_tables.specs.Queues.{is_of_kind};
 
-use crate::fields::kind_in;
 use crate::ioc::Ioc;
+use ioc_requests::kind_of;
 use ioc_tables::{is_of_kind, smid_of};
 use mpi_names::{FRAME_BYTES, REPLY_FRAMES, REPLY_FRAMES_ADDRESS};
 use mpi_rings::PostKind;
@@ -29,7 +29,7 @@ impl Ioc {
         ensures told { self.new.told ≡ self.old.told }
     {
         if self.is_operational() {
-            match kind_in(post.descriptor) {
+            match kind_of(post.descriptor) {
                 Some(kind) => self.take_post_as(kind, post),
                 None => self.fault(BAD_POST),
             }
