@@ -4,3 +4,4 @@ pub mod Returns
 pub mod Resets
 pub mod DoorTurns
 pub mod Inputs
+pub mod Changes

@@ -2,5 +2,6 @@
 pub mod Driver
 pub mod Faults
 pub mod Posts
+pub mod Taking
 pub mod Places
 pub mod Resets

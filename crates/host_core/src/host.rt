@@ -3,11 +3,15 @@ ghost use Rattle.std.specs.Prelude.{◌≡◌, ◌≤◌, ◌<◌, ◌+◌, ◌+
 ghost use Rattle.mpt_rules.specs.Host.Parts.{new_host};
 
 mod doorbell;
+mod handles;
 mod inputs;
 mod posts;
 mod queries;
+mod replies;
 mod resets;
 mod returns;
+mod strange;
+mod taking;
 mod values;
 
 use host_tables::{

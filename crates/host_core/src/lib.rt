@@ -9,6 +9,8 @@ mod faults;
 mod host;
 mod places;
 #[cfg(test)]
+mod take_tests;
+#[cfg(test)]
 mod tests;
 
 pub use faults::{HostFault, TakeFault};
