@@ -46,7 +46,7 @@ not_both false e f = cc
 -- ---- one write
 
 -- a write of HostDiagnostic leaves the place in the keys
-key_stays : (i : Ioc) (value : ℕ) → (writes_still i HOST_DIAGNOSTIC value).door.key_place ≡ i.door.key_place
+pub key_stays : (i : Ioc) (value : ℕ) → (writes_still i HOST_DIAGNOSTIC value).door.key_place ≡ i.door.key_place
 key_stays i value = by_tests (is_unlocked i.door) (has value DIAG_RESET_ADAPTER)
   where
     held : DoorRegisters
@@ -62,7 +62,7 @@ key_stays i value = by_tests (is_unlocked i.door) (has value DIAG_RESET_ADAPTER)
     by_tests false c = refl
 
 -- an unlocked HostDiagnostic takes RESET_ADAPTER
-unlocked_resets : (r : DoorRegisters) (value : ℕ) → r.key_place ≡ 6 → has value DIAG_RESET_ADAPTER ≡ true → Resets (register_written r HOST_DIAGNOSTIC value).effect
+pub unlocked_resets : (r : DoorRegisters) (value : ℕ) → r.key_place ≡ 6 → has value DIAG_RESET_ADAPTER ≡ true → Resets (register_written r HOST_DIAGNOSTIC value).effect
 unlocked_resets r value k e = by_tests (is_unlocked r) (has value DIAG_RESET_ADAPTER) (ap (λ n. n == 6) k) e
   where
     held : DoorRegisters
@@ -74,7 +74,7 @@ unlocked_resets r value k e = by_tests (is_unlocked r) (has value DIAG_RESET_ADA
     by_tests false c e f = absurd (cc)
 
 -- an idle door takes the unit reset
-idle_resets : (r : DoorRegisters) → is_fault r.state ≡ false → r.handshake ≡ Idle → Resets (register_written r DOORBELL unit_reset_dword).effect
+pub idle_resets : (r : DoorRegisters) → is_fault r.state ≡ false → r.handshake ≡ Idle → Resets (register_written r DOORBELL unit_reset_dword).effect
 idle_resets r f e = by_tests (is_fault r.state) f r.handshake e
   where
     by_tests : (a : Bool) → a ≡ false → (h : Handshake) → h ≡ Idle → Resets (if a then quietly r else (if is_idle h then Rattle.mpi_doorbell.specs.DoorRegisters.function_written r (unit_reset_dword / 2 ^ 24) (unit_reset_dword / 2 ^ 16 % 256) else record { registers = record r { handshake = dword_taken h unit_reset_dword }; effect = asked_by h unit_reset_dword })).effect
@@ -93,7 +93,7 @@ abbrev after_dword : Ioc → ℕ → Bool → Handshake → Ioc
 after_dword i dword a h = Rattle.law_facts.specs.DoorAhead.does_still (record i { door = (dword_written i dword a h).registers }) (dword_written i dword a h).effect
 
 -- a door that a dword leaves idle was idle, as a reset isn't acted on
-idle_before : (i : Ioc) (dword : ℕ) → is_fault i.door.state ≡ false → (writes_still i DOORBELL dword).door.handshake ≡ Idle → i.door.handshake ≡ Idle
+pub idle_before : (i : Ioc) (dword : ℕ) → is_fault i.door.state ≡ false → (writes_still i DOORBELL dword).door.handshake ≡ Idle → i.door.handshake ≡ Idle
 idle_before i dword f e = by_tests (is_fault i.door.state) f i.door.handshake refl e
   where
     not_idle : (h : Handshake) → IsReplied h → h ≡ Idle → ⊥

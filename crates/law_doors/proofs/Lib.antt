@@ -4,3 +4,6 @@ pub mod Whole
 pub mod Turning
 pub mod StageKept
 pub mod StageWorld
+pub mod Ending
+pub mod Started
+pub mod DoorsKept

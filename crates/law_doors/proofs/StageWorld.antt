@@ -361,7 +361,7 @@ module _ (w : World) (h : History) (b : Before w h) where
   -- ---- the host takes a value
 
   -- nothing else is read, and no register is written
-  alone : (v : ℕ) (rest : List Up) → up_on w 0 ≡ upward.Value v ∷ rest → w.host.reading ≡ true → (how_many is_read (down_line w) ≡ 0) × (how_many Rattle.mpt_rules.specs.World.Counts.is_register_write (down_line w) ≡ 0)
+  pub alone : (v : ℕ) (rest : List Up) → up_on w 0 ≡ upward.Value v ∷ rest → w.host.reading ≡ true → (how_many is_read (down_line w) ≡ 0) × (how_many Rattle.mpt_rules.specs.World.Counts.is_register_write (down_line w) ≡ 0)
   unfolding read_count value_count Rattle.mpt_rules.specs.World.Counts.register_write_count
   alone v rest e r =
       let o = k.one_read.one in let one : one_if w.host.reading ≡ 1 = ap one_if r in
@@ -518,11 +518,11 @@ module _ (w : World) (h : History) (b : Before w h) where
         of_step (step.Write reg value) = 0
         of_step (step.Refused p value) = 0
 
-    coming : value_coming w ≡ Some v
+    pub coming : value_coming w ≡ Some v
     unfolding first_value
     coming = ap (λ xs. first_value (map said_of xs ++ get_or w.ioc.up 0 [])) e
 
-    reads_ready : (d : HostDoor) (x : Reading) → w.host.machine ≡ Some d → d.stage ≡ door_stage.Awaits x → ReadsFor w.host.stage x → IsInMode w w.host.stage → w.host.stage ≡ stage.Start → (count : ℕ) (bytes : List ℕ) → (next_turn d (Some v)).step ≡ step.Done count bytes → values_of.state_read (take count bytes) ≡ IOC_STATE_READY
+    pub reads_ready : (d : HostDoor) (x : Reading) → w.host.machine ≡ Some d → d.stage ≡ door_stage.Awaits x → ReadsFor w.host.stage x → IsInMode w w.host.stage → w.host.stage ≡ stage.Start → (count : ℕ) (bytes : List ℕ) → (next_turn d (Some v)).step ≡ step.Done count bytes → values_of.state_read (take count bytes) ≡ IOC_STATE_READY
     reads_ready d x m at rf im s count bytes y =
         let xd : x ≡ reading.Doorbell = subst (λ z. ReadsFor z x) s rf in
         let a1 : d.stage ≡ door_stage.Awaits reading.Doorbell = at ∙ ap door_stage.Awaits xd in
@@ -624,7 +624,7 @@ module _ (w : World) (h : History) (b : Before w h) where
   enable_asked p g zero e = absurd (cc)
   enable_asked p g (suc n) e = asked_at p g w.host.pool n e
 
-  enabling : (s : ℕ) → is_resetting w.host.mode ≡ false → is_enable (request_of w.host s) ≡ true → w.host.machine ≡ None
+  pub enabling : (s : ℕ) → is_resetting w.host.mode ≡ false → is_enable (request_of w.host s) ≡ true → w.host.machine ≡ None
   enabling s m e = by_mode w.host.mode refl
     where
       a : 1 ≤ how_many is_enable_asked w.host.pool
