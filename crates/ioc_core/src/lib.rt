@@ -28,8 +28,6 @@ mod resets;
 mod sending;
 mod steps;
 mod tasks;
-#[cfg(test)]
-mod tests;
 
 pub use ioc::Ioc;
 pub use moves::{IocMove, IocSaid, IocTalk};
