@@ -1,4 +1,4 @@
-use Rattle.std.proofs.Common.{rules, ◌≡◌, ◌+◌, ◌∙◌, Some, None, get_or, drop, ap, sym, arith, vec_items}
+use Rattle.std.proofs.Common.{◌∙◌, None, ap, sym, vec_items}
 use Rattle.mpt_text.proofs.Digits.{named, named-start, step_bad, step_first, step_second, step_end, step_half}
 use Rattle.mpt_text.proofs.hexadecimal.parse_hex.Goals as goal
 use Rattle.mpt_text.proofs.hexadecimal.parse_hex.Goals.{in-None, in-Some-high+in_ok-push-in-Some-high}
