@@ -4,4 +4,4 @@
 
 mod laws;
 
-pub use laws::sessions_are_merged;
+pub use laws::{session_lanes_are_queues, sessions_are_merged};
