@@ -25,7 +25,7 @@ others-entries party (row ∷ rows) h =
     (All-head (λ (r : Row (List Entry)). party_number r.party ≢ party_number party) row rows h)
     (others-entries party rows (All-tail (λ (r : Row (List Entry)). party_number r.party ≢ party_number party) row rows h))
 
-differ-entries : (rows : List (Row (List Entry))) → PartiesDiffer rows → PartiesDiffer (map by_entries rows)
+pub differ-entries : (rows : List (Row (List Entry))) → PartiesDiffer rows → PartiesDiffer (map by_entries rows)
 differ-entries [] h = tt
 differ-entries (row ∷ rows) h = (others-entries row.party rows h.0, differ-entries rows h.1)
 
@@ -42,7 +42,7 @@ own-blocks party (b ∷ bs) h =
     (own-each party b.stamp b.value (All-head (λ (x : Block). All (IsOwnEntry party) x.value) b bs h))
     (own-blocks party bs (All-tail (λ (x : Block). All (IsOwnEntry party) x.value) b bs h))
 
-own-entries : (rows : List (Row (List Entry))) → All HasOwnCases rows → All HasOwnEntries (map by_entries rows)
+pub own-entries : (rows : List (Row (List Entry))) → All HasOwnCases rows → All HasOwnEntries (map by_entries rows)
 own-entries [] h = All-nil HasOwnEntries
 own-entries (row ∷ rows) h =
     All-cons HasOwnEntries (by_entries row) (map by_entries rows)

@@ -1,7 +1,7 @@
-mod Merges
-mod Runs
-mod Moments
-mod Stamps
-mod Whole
-mod Parts
-mod Cases
+pub mod Merges
+pub mod Runs
+pub mod Moments
+pub mod Stamps
+pub mod Whole
+pub mod Parts
+pub mod Cases

@@ -91,7 +91,7 @@ module _ {X : Type 0} where
 -- ---- the same of the entries
 
 -- the parties are one only where their numbers are
-number-from_same : (p q : Party) → same_party p q ≡ true → party_number p ≡ party_number q
+pub number-from_same : (p q : Party) → same_party p q ≡ true → party_number p ≡ party_number q
 number-from_same party.Host party.Host h = refl
 number-from_same party.Host party.Ioc h = cc
 number-from_same party.Host party.Fabric h = cc

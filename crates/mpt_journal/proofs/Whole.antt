@@ -102,7 +102,7 @@ moment_values-spread (b ∷ bs) =
 
 -- ---- journals
 
-all_of-front : (n s : ℕ) (es : List Entry) (rest : List (At Entry)) → all_of n (map (λ (e : Entry). record { stamp = s; value = e }) es ++ rest) ≡ map (keyed s n) es ++ all_of n rest
+pub all_of-front : (n s : ℕ) (es : List Entry) (rest : List (At Entry)) → all_of n (map (λ (e : Entry). record { stamp = s; value = e }) es ++ rest) ≡ map (keyed s n) es ++ all_of n rest
 all_of-front n s [] rest = refl
 all_of-front n s (e ∷ es) rest = ap (λ (zs : List (Of Entry)). keyed s n e ∷ zs) (all_of-front n s es rest)
 

@@ -1,0 +1,4 @@
+mod Owned
+mod Journals
+mod Lanes
+mod ShortQueues
