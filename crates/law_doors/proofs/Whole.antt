@@ -65,7 +65,7 @@ use Rattle.law_doors.proofs.Ahead.{ahead-write}
 -- ---- a FAULT stays ahead
 
 -- no link waits behind a write
-waits_stay : (r : DoorRegisters) (reg value : ℕ) → r.link_waits ≡ false → (register_written r reg value).registers.link_waits ≡ false
+pub waits_stay : (r : DoorRegisters) (reg value : ℕ) → r.link_waits ≡ false → (register_written r reg value).registers.link_waits ≡ false
 waits_stay r reg value e = by_tests (reg == WRITE_SEQUENCE) (reg == HOST_DIAGNOSTIC) (is_fault r.state) (reg == DOORBELL) (reg == HOST_INTERRUPT_STATUS) (reg == HOST_INTERRUPT_MASK) (reg == REPLY_POST_HOST_INDEX)
   where
     release : (x : DoorRegisters) → x.link_waits ≡ false → (released x).link_waits ≡ false

@@ -1,0 +1,31 @@
+-- What is shown of a start, over all cases: of a world of which all facts hold, and those of a start.
+use Rattle.std.proofs.Common.{refl}
+use Rattle.mpt_rules.specs.World.Cases.{Case, happens}
+use Rattle.mpt_rules.specs.Law.{NothingIsStrange}
+use Rattle.mpt_rules.specs.World.Settings.{Setting, first_world}
+use Rattle.mpt_rules.specs.World.State.{World}
+use Rattle.law_facts.specs.Facts.{Facts}
+use Rattle.law_facts.specs.History.{History}
+use Rattle.law_facts.specs.DoorAhead.{written_ahead}
+use Rattle.mpt_rules.specs.World.Counts.{how_many}
+use Rattle.law_clock.specs.Premises.{Before}
+use Rattle.law_doors.proofs.DoorsKept.{resets_heeded}
+use Rattle.law_starts.specs.Starts.{StartsStand}
+use Rattle.law_starts.proofs.HoldsKept.{holds_kept}
+use Rattle.law_starts.proofs.KnowsKept.{knows_kept}
+use Rattle.law_starts.proofs.WrittenKept.{written_kept}
+
+pub starts_kept : (w : World) (h : History) (c : Case) → Facts w h → NothingIsStrange w → StartsStand w → StartsStand (happens w c)
+starts_kept w h c f plain s =
+    let b : Before w h = record { facts = f; plain = plain; heeded = resets_heeded w h f } in
+    record { nothing_holds = holds_kept w h b s.nothing_holds c; nothing_is_written = written_kept w h b s.nothing_is_written c; knows_no_host = knows_kept w h b s.knows_no_host c }
+
+-- and at first nothing goes on
+pub starts_at_first : (s : Setting) → StartsStand (first_world s)
+unfolding how_many written_ahead
+starts_at_first s =
+    record {
+      nothing_holds = record { writes = refl; read = λ d m a. absurd (cc); hold = refl; hold_ahead = refl; waits = refl };
+      nothing_is_written = record { look = λ e. refl; reset = λ e. refl };
+      knows_no_host = λ l. refl;
+    }

@@ -1,0 +1,19 @@
+//! The laws.
+ghost use Rattle.mpt_rules.specs.World.Cases.{Case, happens};
+ghost use Rattle.mpt_rules.specs.Law.{NothingIsStrange};
+ghost use Rattle.mpt_rules.specs.World.Settings.{Setting, first_world};
+ghost use Rattle.mpt_rules.specs.World.State.{World};
+ghost use Rattle.law_facts.specs.Facts.{Facts};
+ghost use Rattle.law_facts.specs.History.{History};
+ghost use Rattle.law_starts.specs.Starts.{StartsStand};
+
+/// Where all facts and those of a start hold of a world, and nothing on its way is strange to its host, those of a start hold of the world that any case
+/// leads to.
+pub fn starts_are_kept()
+    ensures { (w : World) (h : History) (c : Case) → Facts w h → NothingIsStrange w → StartsStand w → StartsStand (happens w c) }
+{}
+
+/// The facts of a start hold of the first world of any setting.
+pub fn starts_stand_at_first()
+    ensures { (s : Setting) → StartsStand (first_world s) }
+{}

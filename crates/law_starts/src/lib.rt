@@ -1,0 +1,7 @@
+//! Laws of the doorbell: what no write on its way does, and what a controller that isn't OPERATIONAL knows of its host. The functions do
+//! nothing: what their contracts say is all that they are for.
+#![tactic(auto)]
+
+mod laws;
+
+pub use laws::{starts_are_kept, starts_stand_at_first};
