@@ -4,6 +4,7 @@ ghost use Rattle.mpt_rules.specs.Host.Takes.{host_waits, is_starting};
 ghost use Rattle.mpt_rules.specs.Host.Returns.{down_sent};
 ghost use Rattle.host_core.specs.Driver.{CanSubmit};
 ghost use Rattle.host_core.specs.Places.{host_phase, host_smid};
+ghost use Rattle.host_core.specs.Things.{host_things};
 
 use super::Host;
 use crate::places::HostSmid;
@@ -94,5 +95,18 @@ impl Host {
         ensures { result ≡ slice_index_or self.now.host.frames frame HostFrame.Held }
     {
         self.frames.at(u32::from(frame))
+    }
+
+    /// How many things the host has to do: commands, aborts and target resets that aren't answered; items to be put, reads
+    /// not counted; posts that wait for an identifier; and handles that are neither ready nor absent.
+    pub fn things_to_do(&self) -> u128
+        ensures { result ≡ host_things self.now.host }
+    {
+        self.cmds.len() as u128
+            + self.aborts.len() as u128
+            + self.pool.target_reset_count() as u128
+            + self.lists.down_count() as u128
+            + self.lists.waiting_count()
+            + self.phases.under_way_count() as u128
     }
 }
