@@ -5,3 +5,4 @@ pub mod Posts
 pub mod Taking
 pub mod Places
 pub mod Resets
+pub mod Things

@@ -1,11 +1,12 @@
 //! The lists of a host that grow.
-ghost use Rattle.std.specs.Prelude.{◌≡◌, ◌≤◌, ◌<◌, ◌-◌, ◌++◌, ◌∷◌, ◌||◌, [], OnOk, OnErr, drop, length, nat_lt, not, option_copied, option_to_list, slice_get, true, IfSome};
+ghost use Rattle.std.specs.Prelude.{◌≡◌, ◌≤◌, ◌<◌, ◌-◌, ◌+◌, ◌^◌, ◌++◌, ◌∷◌, ◌||◌, [], OnOk, OnErr, drop, length, nat_lt, not, option_copied, option_to_list, slice_get, true, IfSome};
 ghost use Rattle.std.specs.List.{filter, list_any};
 ghost use Rattle.mpt_messages.specs.HostFrames.{IsAsk};
 ghost use Rattle.mpt_rules.specs.Host.Posts.{frame_asked};
 ghost use Rattle.mpt_rules.specs.Host.Removal.{is_page_of, without_page};
 ghost use Rattle.mpt_rules.specs.Host.Resets.{is_no_post};
 ghost use Rattle.mpt_rules.specs.World.Places.{is_posted_as};
+ghost use Rattle.mpt_rules.specs.World.Weight.{down_items, is_read};
 ghost use Rattle.host_tables.specs.Lists.{Lists};
 ghost use Rattle.host_tables.specs.Slots.{is_internal};
 
@@ -195,6 +196,21 @@ impl HostLists {
         self.down.iter().any(|item| is_post_of(item, smid))
     }
 
+    /// How many items are to be put, reads not counted.
+    pub fn down_count(&self) -> usize
+        ensures { result ≡ down_items self.now.down }
+    {
+        self.down.iter().filter(|item| !is_read(item)).count()
+    }
+
+    /// How many posts wait for an identifier.
+    pub fn waiting_count(&self) -> u128
+        ensures value { result ≡ length self.now.high + length self.now.internal }
+        ensures most { result ≤ 2 ^ 65 }
+    {
+        self.high.len() as u128 + self.internal.len() as u128
+    }
+
     /// Whether something waits for an identifier.
     pub fn has_waiting(&self) -> bool
         ensures { result ≡ (nat_lt 0 (length self.now.high) || nat_lt 0 (length self.now.internal)) }
@@ -211,6 +227,13 @@ fn is_post_of(item: &Down, smid: Smid) -> bool
         Down::Post { descriptor, .. } => *descriptor / 0x1_0000 % 0x1_0000 == u64::from(smid),
         _ => false,
     }
+}
+
+// Whether an item reads a register.
+fn is_read(item: &Down) -> bool
+    ensures { result ≡ is_read item.now }
+{
+    matches!(item, Down::Read { .. })
 }
 
 // Whether an item is a post.

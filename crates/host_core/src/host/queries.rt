@@ -1,9 +1,10 @@
 //! What the host is asked about itself, and what it puts and tells.
-ghost use Rattle.std.specs.Prelude.{◌≡◌, ◌<◌, ◌++◌, Some, length, option_copied, option_to_list, slice_get, slice_index_or};
+ghost use Rattle.std.specs.Prelude.{◌≡◌, ◌<◌, ◌++◌, Some, drop, length, option_copied, option_to_list, slice_get, slice_index_or};
 ghost use Rattle.mpt_rules.specs.Host.Takes.{host_waits, is_starting};
 ghost use Rattle.mpt_rules.specs.Host.Returns.{down_sent};
 ghost use Rattle.host_core.specs.Driver.{CanSubmit};
 ghost use Rattle.host_core.specs.Places.{host_phase, host_smid};
+ghost use Rattle.host_core.specs.Things.{host_things};
 
 use super::Host;
 use crate::places::HostSmid;
@@ -16,6 +17,7 @@ impl Host {
     /// The next entry that the host told. None exactly where none is left.
     pub fn answers(&mut self) -> Option<Entry>
         ensures first { self.old.told ≡ option_to_list result ++ self.new.told }
+        ensures rest { self.new.told ≡ drop 1 self.old.told }
         ensures host { self.new.host ≡ self.old.host }
         ensures reserved { CanSubmit self.old → CanSubmit self.new }
     {
@@ -94,5 +96,18 @@ impl Host {
         ensures { result ≡ slice_index_or self.now.host.frames frame HostFrame.Held }
     {
         self.frames.at(u32::from(frame))
+    }
+
+    /// How many things the host has to do: commands, aborts and target resets that aren't answered; items to be put, reads
+    /// not counted; posts that wait for an identifier; and handles that are neither ready nor absent.
+    pub fn things_to_do(&self) -> u128
+        ensures { result ≡ host_things self.now.host }
+    {
+        self.cmds.len() as u128
+            + self.aborts.len() as u128
+            + self.pool.target_reset_count() as u128
+            + self.lists.down_count() as u128
+            + self.lists.waiting_count()
+            + self.phases.under_way_count() as u128
     }
 }
