@@ -18,7 +18,7 @@ use Rattle.mpt_journal.specs.Laws.{AreOfOthers, CasesRise, HasOwnCases, PartiesD
 use Rattle.mpt_journal.proofs.Cases.{cases_are_shown}
 use Rattle.mpt_journal.proofs.Stamps.{merged_by_stamp}
 use Rattle.mpt_journal.proofs.Whole.{never_falls}
-use Rattle.law_sessions.proofs.Owned.{AreOwned, fabric_owned, host_owned, ioc_owned, submitter_owned}
+use Rattle.law_parties.proofs.Owned.{AreOwned, fabric_owned, host_owned, ioc_owned, submitter_owned}
 
 -- ---- the stamps of a journal rise
 

@@ -1,4 +1,2 @@
-mod Owned
 mod Journals
 mod Lanes
-mod ShortQueues

@@ -1,5 +1,5 @@
 //! The laws.
-ghost use Rattle.mpt_rules.specs.Law.{ControllersAreShort, SessionLanesAreQueues, SessionsAreMerged};
+ghost use Rattle.mpt_rules.specs.Law.{SessionLanesAreQueues, SessionsAreMerged};
 
 /// The merge of a session's journals is sorted by stamp and party, and each party's part of it is its journal in order.
 pub fn sessions_are_merged()
@@ -9,9 +9,4 @@ pub fn sessions_are_merged()
 /// Where what is taken from each lane was put there with a lesser stamp, in its order, the lanes of the merge are queues.
 pub fn session_lanes_are_queues()
     ensures { SessionLanesAreQueues }
-{}
-
-/// Whatever a controller takes from its lanes, its queues are no longer than there are identifiers of their kinds.
-pub fn controllers_are_short()
-    ensures { ControllersAreShort }
 {}

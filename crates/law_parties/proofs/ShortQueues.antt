@@ -34,12 +34,16 @@ use Rattle.mpt_rules.specs.Ioc.Steps.{steps_high_on, steps_normal_on, works_on}
 use Rattle.mpt_rules.specs.Ioc.Tables as table
 use Rattle.mpt_rules.specs.Ioc.Takes.{front_out, front_up_on, takes_down}
 use Rattle.mpt_rules.specs.Ioc.Tasks.{is_scsi_post}
-use Rattle.mpt_rules.specs.Law.{ControllersAreShort}
+use Rattle.mpt_rules.specs.Law.{ControllersAreShort, QueuesAreShort}
 use Rattle.mpt_rules.specs.Outcome.{Happening}
 use Rattle.mpt_rules.specs.Session.OpenCases.{IocCase, PutsOut, PutsUp, TakesBack, TakesDown, WorksHigh, WorksNormal, ioc_does, open_worked, puts_out, puts_up}
 use Rattle.mpt_rules.specs.Session.Parts.{ioc_behind}
 use Rattle.law_flights.proofs.Leaves.{Bound, Calmed, Done, Ended, Hears, Linked, Lost, Passed, Unawaited, Waits, back_leaf, reply_made}
 use Rattle.law_flights.proofs.WorkLeaves.{AbortEnds, AbortSends, Acks, Dropped, Enables, EndsPlainly, Notifies, PageEnds, PageGiven, Refuses, RemovalEnds, Removes, ResetEnds, ResetHolds, ResetSends, ScsiEnds, ScsiSends, Stops, Strays, TaskFails, Works, works_leaf}
+use Rattle.mpt_rules.specs.World.Cases.{Case, case_of, happens, run}
+use Rattle.mpt_rules.specs.World.Settings.{Setting, first_world}
+use Rattle.mpt_rules.specs.World.State.{World}
+use Rattle.law_parties.proofs.OfParty.{Idles, OfFabric, OfHost, OfIoc, OfParty, of_party}
 use Rattle.law_moves.proofs.IocTakes.{ComesUp, Shook, Stays, shook}
 
 -- ---- a queue
@@ -306,3 +310,20 @@ pub short_law : ControllersAreShort
 short_law phys q cases =
     let h = all_cases (new_ioc phys q) cases (record { high_once = tt; normal_once = tt }) in
     (few true (ioc_behind (new_ioc phys q) cases).high h.high_once, few false (ioc_behind (new_ioc phys q) cases).normal h.normal_once)
+
+-- ---- every world
+
+world_case : (w : World) (o : Happening World) → OfParty w o → HasQueues w.ioc → HasQueues o.part.ioc
+world_case w o (Idles c same is) h = subst (λ (v : World). HasQueues v.ioc) (sym same) h
+world_case w o (OfHost c host ioc is) h = subst HasQueues (sym ioc) h
+world_case w o (OfIoc c host ioc is) h = subst HasQueues (sym ioc) (one_case w.ioc c h)
+world_case w o (OfFabric c host ioc is) h = subst HasQueues (sym ioc) h
+
+world_cases : (w : World) (cases : List Case) → HasQueues w.ioc → HasQueues (run w cases).ioc
+world_cases w [] h = h
+world_cases w (c ∷ cases) h = world_cases (happens w c) cases (world_case w (case_of w c) (of_party w c) h)
+
+pub worlds_short : (s : Setting) (cases : List Case) → QueuesAreShort (run (first_world s) cases)
+worlds_short s cases =
+    let h = world_cases (first_world s) cases (record { high_once = tt; normal_once = tt }) in
+    (few true (run (first_world s) cases).ioc.high h.high_once, few false (run (first_world s) cases).ioc.normal h.normal_once)

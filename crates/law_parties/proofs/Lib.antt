@@ -1,0 +1,4 @@
+pub mod InPlace
+pub mod OfParty
+pub mod Owned
+mod ShortQueues

@@ -1,0 +1,20 @@
+//! The laws.
+ghost use Rattle.std.specs.Prelude.{List};
+ghost use Rattle.mpt_rules.specs.Law.{ControllersAreShort, QueuesAreShort, TellsStandBehind};
+ghost use Rattle.mpt_rules.specs.World.Cases.{Case, run, trace};
+ghost use Rattle.mpt_rules.specs.World.Settings.{Setting, first_world};
+
+/// Whatever a controller takes from its lanes, its queues are no longer than there are identifiers of their kinds.
+pub fn controllers_are_short()
+    ensures { ControllersAreShort }
+{}
+
+/// So they are in the world that any list of cases leads to.
+pub fn queues_stay_short()
+    ensures { (s : Setting) (cases : List Case) → QueuesAreShort (run (first_world s) cases) }
+{}
+
+/// What is told stands right after an entry of its own party, over every list of cases.
+pub fn tells_stand_behind()
+    ensures { (s : Setting) (cases : List Case) → TellsStandBehind s (trace (first_world s) cases) }
+{}

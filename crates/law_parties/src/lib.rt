@@ -1,0 +1,7 @@
+//! Laws of each party by itself, whatever its lanes bring. The functions do nothing: what their contracts say is all that
+//! they are for.
+#![tactic(auto)]
+
+mod laws;
+
+pub use laws::{controllers_are_short, queues_stay_short, tells_stand_behind};

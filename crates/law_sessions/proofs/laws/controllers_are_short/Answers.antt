@@ -1,5 +1,0 @@
-use Rattle.law_sessions.proofs.ShortQueues.{short_law}
-use Rattle.law_sessions.proofs.laws.controllers_are_short.Goals as goal
-
-pub returns : goal.returns
-returns c = short_law
