@@ -20,7 +20,7 @@ use Rattle.mpt_rules.specs.declared.said.Said.{Said}
 use Rattle.mpt_rules.specs.declared.said.Said.TheVariants as said
 use Rattle.mpt_rules.specs.declared.stage.Stage.{Stage}
 use Rattle.mpt_rules.specs.World.Cases.{Case, happens}
-use Rattle.mpt_rules.specs.World.Counts.{how_many, one_if, read_count, value_count}
+use Rattle.mpt_rules.specs.World.Counts.{how_many, one_if, read_count}
 use Rattle.mpt_rules.specs.Host.Doorbell as door
 use Rattle.mpt_rules.specs.Host.Doorbell.{next_turn}
 use Rattle.mpt_rules.specs.Host.Parts.{Host}
@@ -195,35 +195,6 @@ module _ (w : World) (h : History) (b : Before w h) (u : NothingHolds w) where
         omega (arith, a, c, e, f, o, n, z, y)
 
     -- how many values were on their way
-    one_front : (v : ℕ) (rest : List Up) → up_on w 0 ≡ upward.Value v ∷ rest → v0 ≡ 1
-    unfolding read_count value_count
-    one_front v rest e =
-        let o = k.one_read.one in let r = at_most w.host.reading in
-        let g : up_line w 0 ≡ said.Value v ∷ (map said_of rest ++ get_or w.ioc.up 0 []) = ap (λ xs. map said_of xs ++ get_or w.ioc.up 0 []) e in
-        let a = ap (how_many is_said_value) g in let c = how_many-cons is_said_value (said.Value v) (map said_of rest ++ get_or w.ioc.up 0 []) in
-        omega (arith, o, r, a, c)
-      where
-        at_most : (c : Bool) → one_if c ≤ 1
-        at_most true = omega arith
-        at_most false = omega arith
-
-    unread : w.host.reading ≡ false → v0 ≡ 0
-    unfolding read_count value_count
-    unread r = let o = k.one_read.one in let z : one_if w.host.reading ≡ 0 = ap one_if r in omega (arith, o, z)
-
-    base_values : {y : Host} {s : Stage} {d : HostDoor} {t : Bool} → Beginning w y s d t → v0 ≡ one_if t
-    base_values (FromOff m) = unread (off_reading w.host.reading refl)
-      where
-        off_reading : (c : Bool) → w.host.reading ≡ c → c ≡ false
-        off_reading true r = absurd (Rattle.law_clock.proofs.StillKept.not_reading w h b (ap Rattle.law_facts.specs.Words.is_off m) r)
-        off_reading false r = refl
-    base_values (Free m r) = unread r
-    base_values (Asked s d q n r) = unread r
-    base_values (Late s d q e n y v rest g r) = one_front v rest g
-    base_values (Marked queue m r) = unread (k.value_is_last.ready r).reading
-    base_values (Renewed d y v hv o r) = one_front v hv.rest hv.front
-    base_values (Next d y v hv o s a f) = one_front v hv.rest hv.front
-
     pub host : (t : Bool) → AtDoor w x t → values + one_if t ≡ v0 → HoldsOf (w.down ++ x.out) x.machine held
     host t (Keeps q) e = record { writes = more q.grows.added q.grows.is (none_passes is_plain is_hold_write plain_unheld q.grows.added q.grows.mild); read = λ d m a. let z = u.read d (sym q.machine_is ∙ m) a in omega (arith, z, less) }
     host t (GivesUp s rs m r f) e = record { writes = ap (λ (y : Host). how_many is_hold_write (w.down ++ y.out)) f ∙ given_up; read = λ d m a. no_some d (sym (ap (λ (y : Host). y.machine) f) ∙ m) }
@@ -231,19 +202,19 @@ module _ (w : World) (h : History) (b : Before w h) (u : NothingHolds w) where
     host t (Begins base s d t2 q f) e =
         let g = base_begun q in
         let i = f ∙ begins_is base s d g.0 g.1 in
-        record { writes = ap (λ (y : Host). how_many is_hold_write (w.down ++ y.out)) i ∙ read_on base.out (next_turn d None).writes g.1.reg (base_writes q) (base_unheld q); read = λ d2 m a. none_held t2 e (base_values q) }
+        record { writes = ap (λ (y : Host). how_many is_hold_write (w.down ++ y.out)) i ∙ read_on base.out (next_turn d None).writes g.1.reg (base_writes q) (base_unheld q); read = λ d2 m a. none_held t2 e (at.beginning_values w h b q) }
     host t (Turns d y v hv reg s f) e =
         let i = f ∙ ap (door.puts_step (door.puts_writes (record w.host { reading = false }) (next_turn d (Some v)).writes) (next_turn d (Some v)).door) s in
-        record { writes = ap (λ (z : Host). how_many is_hold_write (w.down ++ z.out)) i ∙ read_on w.host.out (next_turn d (Some v)).writes reg u.writes (written d y v hv); read = λ d2 m a. none_held true e (one_front v hv.rest hv.front) }
-    host t (Looked d y v hv o s f) e = record { writes = more (next_turn d (Some v)).writes (ap (λ (z : Host). z.out) f) (written d y v hv); read = λ d2 m a. none_held true e (one_front v hv.rest hv.front) }
-    host t (Readied d y v hv o s f) e = record { writes = more (next_turn d (Some v)).writes (ap (λ (z : Host). z.out) f) (written d y v hv); read = λ d2 m a. none_held true e (one_front v hv.rest hv.front) }
+        record { writes = ap (λ (z : Host). how_many is_hold_write (w.down ++ z.out)) i ∙ read_on w.host.out (next_turn d (Some v)).writes reg u.writes (written d y v hv); read = λ d2 m a. none_held true e (at.one_value w h b v hv.rest hv.front) }
+    host t (Looked d y v hv o s f) e = record { writes = more (next_turn d (Some v)).writes (ap (λ (z : Host). z.out) f) (written d y v hv); read = λ d2 m a. none_held true e (at.one_value w h b v hv.rest hv.front) }
+    host t (Readied d y v hv o s f) e = record { writes = more (next_turn d (Some v)).writes (ap (λ (z : Host). z.out) f) (written d y v hv); read = λ d2 m a. none_held true e (at.one_value w h b v hv.rest hv.front) }
     host t (Opened d y v hv o s q) e =
         record {
           writes =
               (let z = written d y v hv in let n = none_passes Rattle.law_moves.proofs.HostSpeaks.is_spoken is_hold_write (λ i j. plain_unheld i (spoken_plain i j)) q.grows.added q.grows.mild in
               let a = how_many-append is_hold_write (next_turn d (Some v)).writes q.grows.added in
               more ((next_turn d (Some v)).writes ++ q.grows.added) (q.grows.is ∙ append_assoc w.host.out (next_turn d (Some v)).writes q.grows.added) (omega (arith, z, n, a)));
-          read = λ d2 m a. none_held true e (one_front v hv.rest hv.front);
+          read = λ d2 m a. none_held true e (at.one_value w h b v hv.rest hv.front);
         }
 
   -- ---- the controller takes an item of the host

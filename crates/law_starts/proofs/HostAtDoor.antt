@@ -1,5 +1,5 @@
 -- What each call of the host does at the doorbell, as data: nothing, or a machine begins, goes on, or is over.
-use Rattle.std.proofs.Common.{◌≡◌, ℕ, ◌==◌, ◌&&◌, ◌||◌, ◌⊎◌, inl, inr, not, Bool, true, false, if◌then◌else◌, List, [], ◌∷◌, ◌++◌, get_or, map, slice_set, take, Option, Some, None, refl, ap, sym, ◌∙◌, subst}
+use Rattle.std.proofs.Common.{◌≡◌, ℕ, ◌≤◌, ◌==◌, ◌&&◌, ◌||◌, ◌⊎◌, inl, inr, not, Bool, true, false, if◌then◌else◌, List, [], ◌∷◌, ◌++◌, get_or, map, slice_set, take, Option, Some, None, refl, ap, sym, ◌∙◌, subst, arith}
 use Rattle.std.specs.FinMap as finmap
 use Rattle.std.specs.FinSet as finset
 use Rattle.mpi_doorbell.specs.HostDoor.{HostDoor}
@@ -42,12 +42,15 @@ use Rattle.mpt_rules.specs.Host.Resets as resets
 use Rattle.mpt_rules.specs.Host.Strange.{why_strange}
 use Rattle.mpt_rules.specs.Host.Values as values_of
 use Rattle.mpt_rules.specs.World.Inputs.{host_told}
-use Rattle.mpt_rules.specs.World.Lines.{said_of}
+use Rattle.mpt_rules.specs.World.Counts.{how_many, one_if, read_count, value_count}
+use Rattle.mpt_rules.specs.World.Lines.{said_of, up_line}
+use Rattle.mpt_rules.specs.World.Weight.{is_said_value}
+use Rattle.mpt_rules.specs.declared.said.Said.TheVariants as said
 use Rattle.mpt_rules.specs.World.State.{World, up_on}
 use Rattle.law_facts.specs.DoorAhead.{IsInMode, ReadsFor, StageFits, WaitsAt, first_value, value_coming, waits_to_reset}
 use Rattle.law_facts.specs.History.{History}
 use Rattle.law_moves.proofs.Cases.{IsHosts}
-use Rattle.law_moves.proofs.Counted.{Grown, all_pass, grown-none, grown-one}
+use Rattle.law_moves.proofs.Counted.{Grown, all_pass, grown-none, grown-one, how_many-cons}
 use Rattle.law_moves.proofs.Hears.{IsOver, is_reset_stage}
 use Rattle.law_moves.proofs.HostGoes.{heard_of, is_value, none_of_or, value_is_due}
 use Rattle.law_moves.proofs.HostSpeaks as speaks
@@ -201,6 +204,36 @@ module _ (w : World) (h : History) (b : Before w h) where
       by_rise : Rises en w.host.mode x.mode → (x.mode ≡ w.host.mode) ⊎ ((is_resetting w.host.mode ≡ false) × (w.host.machine ≡ None) × (x.mode ≡ state.Up))
       by_rise (Stays e) = inl e
       by_rise (ComesUp u r e) = inr (r, nm u r, e)
+
+  -- the values that are on their way
+  pub one_value : (v : ℕ) (rest : List Up) → up_on w 0 ≡ upward.Value v ∷ rest → how_many is_said_value (up_line w 0) ≡ 1
+  unfolding read_count value_count
+  one_value v rest e =
+      let o = b.facts.clock.one_read.one in let r = at_most w.host.reading in
+      let g : up_line w 0 ≡ said.Value v ∷ (map said_of rest ++ get_or w.ioc.up 0 []) = ap (λ xs. map said_of xs ++ get_or w.ioc.up 0 []) e in
+      let a = ap (how_many is_said_value) g in let c = how_many-cons is_said_value (said.Value v) (map said_of rest ++ get_or w.ioc.up 0 []) in
+      omega (arith, o, r, a, c)
+    where
+      at_most : (c : Bool) → one_if c ≤ 1
+      at_most true = omega arith
+      at_most false = omega arith
+
+  pub no_value : w.host.reading ≡ false → how_many is_said_value (up_line w 0) ≡ 0
+  unfolding read_count value_count
+  no_value r = let o = b.facts.clock.one_read.one in let z : one_if w.host.reading ≡ 0 = ap one_if r in omega (arith, o, z)
+
+  pub beginning_values : {y : Host} {s : Stage} {d : HostDoor} {t : Bool} → Beginning w y s d t → how_many is_said_value (up_line w 0) ≡ one_if t
+  beginning_values (FromOff m) = no_value (off_reading w.host.reading refl)
+    where
+      off_reading : (c : Bool) → w.host.reading ≡ c → c ≡ false
+      off_reading true r = absurd (Rattle.law_clock.proofs.StillKept.not_reading w h b (ap Rattle.law_facts.specs.Words.is_off m) r)
+      off_reading false r = refl
+  beginning_values (Free m r) = no_value r
+  beginning_values (Asked s d q n r) = no_value r
+  beginning_values (Late s d q e n y v rest g r) = one_value v rest g
+  beginning_values (Marked queue m r) = no_value (b.facts.clock.value_is_last.ready r).reading
+  beginning_values (Renewed d y v hv o r) = one_value v hv.rest hv.front
+  beginning_values (Next d y v hv o s a f) = one_value v hv.rest hv.front
 
   never : {T : Type 0} → false ≡ true → T
   never e = absurd (cc)

@@ -6,3 +6,7 @@ pub mod WrittenKept
 pub mod Asking
 pub mod KnowsKept
 pub mod StartsKept
+pub mod Alike
+pub mod Keys
+pub mod Resetting
+pub mod AdapterKept

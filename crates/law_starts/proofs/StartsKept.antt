@@ -6,7 +6,8 @@ use Rattle.mpt_rules.specs.World.Settings.{Setting, first_world}
 use Rattle.mpt_rules.specs.World.State.{World}
 use Rattle.law_facts.specs.Facts.{Facts}
 use Rattle.law_facts.specs.History.{History}
-use Rattle.law_facts.specs.DoorAhead.{written_ahead}
+use Rattle.law_facts.specs.DoorAhead.{AdapterBit, written_ahead}
+use Rattle.law_starts.proofs.AdapterKept.{adapter_kept}
 use Rattle.mpt_rules.specs.World.Counts.{how_many}
 use Rattle.law_clock.specs.Premises.{Before}
 use Rattle.law_doors.proofs.DoorsKept.{resets_heeded}
@@ -15,10 +16,17 @@ use Rattle.law_starts.proofs.HoldsKept.{holds_kept}
 use Rattle.law_starts.proofs.KnowsKept.{knows_kept}
 use Rattle.law_starts.proofs.WrittenKept.{written_kept}
 
+module _ (w : World) (h : History) (f : Facts w h) (plain : NothingIsStrange w) where
+  before : Before w h
+  before = record { facts = f; plain = plain; heeded = resets_heeded w h f }
+
 pub starts_kept : (w : World) (h : History) (c : Case) → Facts w h → NothingIsStrange w → StartsStand w → StartsStand (happens w c)
 starts_kept w h c f plain s =
-    let b : Before w h = record { facts = f; plain = plain; heeded = resets_heeded w h f } in
+    let b = before w h f plain in
     record { nothing_holds = holds_kept w h b s.nothing_holds c; nothing_is_written = written_kept w h b s.nothing_is_written c; knows_no_host = knows_kept w h b s.knows_no_host c }
+
+pub adapter_stands : (w : World) (h : History) (c : Case) → Facts w h → NothingIsStrange w → AdapterBit (happens w c)
+adapter_stands w h c f plain = adapter_kept w h (before w h f plain) c
 
 -- and at first nothing goes on
 pub starts_at_first : (s : Setting) → StartsStand (first_world s)

@@ -4,4 +4,4 @@
 
 mod laws;
 
-pub use laws::{starts_are_kept, starts_stand_at_first};
+pub use laws::{adapter_bit_is_kept, starts_are_kept, starts_stand_at_first};
