@@ -12,9 +12,9 @@ use Rattle.mpt_wire.specs.Machine.SoFar.{SoFar}
 use Rattle.disk_machine.specs.declared.memory.TraceMemory.{TraceMemory}
 
 -- the input of an entry, where it is one
-abbrev pub input_in : Entry → Option Input
-input_in (entry.Given input) = Some input
-input_in _ = None
+abbrev pub input_of_entry : Entry → Option Input
+input_of_entry (entry.Given input) = Some input
+input_of_entry _ = None
 
 -- it has those numbers
 abbrev pub HasNumbers : BTreeMap ℕ ℕ → (ℕ → Option ℕ) → Type 0

@@ -14,8 +14,8 @@ abbrev pub Accords : TraceWalk → Machine → SoFar → Type 0
 Accords walk m g = StandsFor walk.machine m × Remembers walk.memory g
 
 -- whatever machine it stood for, it stands for that after the steps that what was said makes of them
-abbrev pub Follows : TraceWalk → TraceWalk → (SoFar → List Step) → Type 0
-Follows before now steps = (m : Machine) (g : SoFar) → Accords before m g → Accords now (after_all m (steps g)) g
+abbrev pub MakesSteps : TraceWalk → TraceWalk → (SoFar → List Step) → Type 0
+MakesSteps before now steps = (m : Machine) (g : SoFar) → Accords before m g → Accords now (after_all m (steps g)) g
 
 -- and it remembers the entry too
 abbrev pub Takes : TraceWalk → TraceWalk → Entry → Option Entry → Type 0

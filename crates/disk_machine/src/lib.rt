@@ -8,6 +8,8 @@ mod parts_summary;
 mod refusals;
 mod summary;
 mod tally;
+#[cfg(test)]
+mod tests;
 mod traced_disk;
 mod walking;
 

@@ -7,7 +7,7 @@ ghost use Rattle.mpt_trace.specs.declared.entry.Entry.{Entry};
 ghost use Rattle.mpt_trace.specs.declared.parties.Party.TheVariants as party;
 ghost use Rattle.mpt_wire.specs.Machine.SoFar.{SoFar, after_entry, nothing_so_far, so_far_next};
 ghost use Rattle.mpt_wire.specs.Walks.Ahead.{is_of};
-ghost use Rattle.disk_machine.specs.Memory.{HasNumbers, Remembers, input_in};
+ghost use Rattle.disk_machine.specs.Memory.{HasNumbers, Remembers, input_of_entry};
 
 use mpt_trace::{Entry, Handle, Input, OutOfMemory, Party, Tag, party};
 use std::alloc::Global;
@@ -103,7 +103,7 @@ pub(crate) fn is_of_fabric(entry: &Entry) -> bool
 
 // The input of an entry, where it is one.
 fn copy_of_input(alloc: Global, entry: &Entry) -> Result<Option<Input>, OutOfMemory>
-    ensures { IfOk result (λ input. input ≡ input_in entry.now) }
+    ensures { IfOk result (λ input. input ≡ input_of_entry entry.now) }
 {
     match entry {
         Entry::Given(input) => Ok(Some(input.copy(alloc)?)),

@@ -32,7 +32,7 @@ pub fn summary_of_trace(
 {
     let machine = walked(alloc, disks, entries)?;
     let counts = AnswerCounts::of(entries);
-    let lines = lines(alloc, &machine, disks)?;
+    let lines = disk_lines(alloc, &machine, disks)?;
     Ok(Summary {
         disks: DiskLines::new(lines),
         done: counts.done,
@@ -52,7 +52,7 @@ pub fn summary_of_trace(
 }
 
 // The lines of these disks.
-fn lines(
+fn disk_lines(
     alloc: Global,
     machine: &DiskMachine,
     disks: &[DiskSpec],

@@ -9,7 +9,7 @@ ghost use Rattle.mpt_wire.specs.Machine.Steps.{GetsReady, Grants, Runs};
 ghost use Rattle.mpt_wire.specs.Machine.View.{given_steps, step_if, steps_of};
 ghost use Rattle.mpt_wire.specs.Walks.Ahead.{next_own};
 ghost use Rattle.disk_machine.specs.Machine.{IsDiskSize, StandsFor};
-ghost use Rattle.disk_machine.specs.Walk.{Accords, Follows, Takes};
+ghost use Rattle.disk_machine.specs.Walk.{Accords, MakesSteps, Takes};
 
 use crate::machine::DiskMachine;
 use crate::memory::TraceMemory;
@@ -48,7 +48,7 @@ impl TraceWalk {
 
     // The machine makes the steps of an entry.
     fn follow(&mut self, entry: &Entry, later: &[Entry]) -> Result<(), OutOfMemory>
-        ensures { OnOk result (Follows self.old self.new (λ g. steps_of g entry.now (next_own entry.now later.now))) }
+        ensures { OnOk result (MakesSteps self.old self.new (λ g. steps_of g entry.now (next_own entry.now later.now))) }
     {
         match entry {
             Entry::Given(input) => self.give(input, later),
@@ -66,7 +66,7 @@ impl TraceWalk {
 
     // An input comes: what it asks is granted, unless the next entry of its party refuses it.
     fn give(&mut self, input: &Input, later: &[Entry])
-        ensures { Follows self.old self.new (λ g. given_steps (call_of input.now) (next_own (entry.Given input.now) later.now)) }
+        ensures { MakesSteps self.old self.new (λ g. given_steps (call_of input.now) (next_own (entry.Given input.now) later.now)) }
     {
         if !is_refused(input, later) {
             self.machine.grant(input);
@@ -75,7 +75,7 @@ impl TraceWalk {
 
     // The task with a tag runs at the disk of an address.
     fn run(&mut self, address: Address, tag: Tag) -> Result<(), OutOfMemory>
-        ensures { OnOk result (Follows self.old self.new (λ g. step_if (g.number_of tag) (λ n. Runs n address) ∷ [])) }
+        ensures { OnOk result (MakesSteps self.old self.new (λ g. step_if (g.number_of tag) (λ n. Runs n address) ∷ [])) }
     {
         match self.memory.number_of(tag) {
             Some(n) => self.machine.run(n, address),
@@ -85,7 +85,7 @@ impl TraceWalk {
 
     // The host calls a disk ready, with the plug that its handle was bound to.
     fn make_ready(&mut self, address: Address, handle: Handle) -> Result<(), OutOfMemory>
-        ensures { OnOk result (Follows self.old self.new (λ g. step_if (g.plug_of handle) (λ k. GetsReady address k) ∷ [])) }
+        ensures { OnOk result (MakesSteps self.old self.new (λ g. step_if (g.plug_of handle) (λ k. GetsReady address k) ∷ [])) }
     {
         match self.memory.plug_of(handle) {
             Some(plug) => self.machine.make_ready(address, plug),
@@ -96,7 +96,7 @@ impl TraceWalk {
     // The host accepts a submission: the one that it was told last, if the number and the address
     // are that one's.
     fn accept(&mut self, n: u32, address: Address) -> Result<(), OutOfMemory>
-        ensures { OnOk result (Follows self.old self.new (λ g. step_if (submitted g.host_call n address) Grants ∷ [])) }
+        ensures { OnOk result (MakesSteps self.old self.new (λ g. step_if (submitted g.host_call n address) Grants ∷ [])) }
     {
         match self.memory.asked() {
             Some(
