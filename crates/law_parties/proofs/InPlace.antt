@@ -36,7 +36,7 @@ use Rattle.mpt_rules.specs.World.Settings.{Setting, first_world}
 use Rattle.mpt_rules.specs.World.State.{World}
 use Rattle.law_moves.proofs.IocWords.{IsIocWord, works_words}
 use Rattle.law_parties.proofs.OfParty.{Idles, OfFabric, OfHost, OfIoc, OfParty, of_party}
-use Rattle.law_parties.proofs.Owned.{AreOwned, IsOwned, fabric_owned, host_owned, ioc_owned}
+use Rattle.law_parties.proofs.Owned.{AreOwned, IsOwned, fabric_owned, host_owned, ioc_owned, own_of}
 
 -- ---- the first entry of a case
 
@@ -144,21 +144,21 @@ submitter_opens submitter (TakesTell tell) = refl
 
 -- ---- the rule over the entries of a case
 
-party_same : (p q : Party) → same_party p q ≡ true → p ≡ q
+pub party_same : (p q : Party) → same_party p q ≡ true → p ≡ q
 party_same party.Host party.Host h = refl
 party_same party.Ioc party.Ioc h = refl
 party_same party.Fabric party.Fabric h = refl
 party_same (party.Submitter i) (party.Submitter j) h = ap party.Submitter (grind (arith, nat_tests, h))
 party_same _ _ h = absurd (cc)
 
-abbrev IsInPlace : Option Party → Entry → Type 0
+abbrev pub IsInPlace : Option Party → Entry → Type 0
 IsInPlace last e = IsBehind (is_told_behind e) last e
 
 -- behind an entry of the party
 behind_own : (p : Party) (last : Party) (es : List Entry) → last ≡ p → AreOwned p es → Passes last_party_next IsInPlace (Some last) es
 behind_own p last [] e own = tt
 behind_own p last (x ∷ es) e own =
-    let mine : IsOwned p x = All-head (IsOwned p) x es own in
+    let mine : is_of p x ≡ true = own_of p x (All-head (IsOwned p) x es own) in
     (by_told (is_told_behind x) (subst (λ (q : Party). is_of q x ≡ true) (sym e) mine), behind_own p (party_of x) es (party_same (party_of x) p mine) (All-tail (IsOwned p) x es own))
   where
     by_told : (b : Bool) → is_of last x ≡ true → IsBehind b (Some last) x
@@ -168,7 +168,7 @@ behind_own p last (x ∷ es) e own =
 pub case_passes : (p : Party) (last : Option Party) (es : List Entry) → Opens es → AreOwned p es → Passes last_party_next IsInPlace last es
 case_passes p last [] first own = tt
 case_passes p last (x ∷ es) first own =
-    (subst (λ (b : Bool). IsBehind b last x) (sym first) tt, behind_own p (party_of x) es (party_same (party_of x) p (All-head (IsOwned p) x es own)) (All-tail (IsOwned p) x es own))
+    (subst (λ (b : Bool). IsBehind b last x) (sym first) tt, behind_own p (party_of x) es (party_same (party_of x) p (own_of p x (All-head (IsOwned p) x es own))) (All-tail (IsOwned p) x es own))
 
 -- ---- every world
 

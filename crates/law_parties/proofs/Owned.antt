@@ -1,5 +1,5 @@
--- What a party's case enters is the party's.
-use Rattle.std.proofs.Common.{◌≡◌, ℕ, zero, suc, true, List, [], ◌∷◌, Option, Some, None, refl, subst, sym, arith}
+-- What a party's case enters is the party's, and no idle choice.
+use Rattle.std.proofs.Common.{◌≡◌, ℕ, zero, suc, Bool, true, false, not, ◌&&◌, List, [], ◌∷◌, Option, Some, None, refl, subst, sym, arith}
 use Rattle.std.specs.Prelude.{All, Result}
 use Rattle.std.proofs.lemmas.Bool.Decides.{nat_tests}
 use Rattle.std.proofs.lemmas.List.Elements.{All-append, All-cons, All-nil}
@@ -28,6 +28,7 @@ use Rattle.mpt_trace.specs.declared.refusal.Refusal.{Refusal}
 use Rattle.mpt_trace.specs.declared.refusal.Refusal.TheVariants as refusal
 use Rattle.mpt_trace.specs.declared.refusal.RefusedCall.{RefusedCall}
 use Rattle.mpt_trace.specs.declared.refusal.RefusedCall.TheVariants as call
+use Rattle.mpt_wire.specs.Fits.Plan.{is_idle}
 use Rattle.mpt_wire.specs.Messages.Fields.{target_reset}
 use Rattle.mpt_wire.specs.Walks.Ahead.{is_of}
 use Rattle.mpt_wire.specs.Walks.Passes.{EachEntry}
@@ -53,9 +54,24 @@ use Rattle.mpt_rules.specs.World.State.{up_lane}
 use Rattle.law_moves.proofs.HostWords.{EndsIt, HostTells, IsHostWord, Words, host_tells}
 use Rattle.law_moves.proofs.IocWords.{IsIocWord, back_words, works_words}
 
--- the entry is the party's
+-- the entry is the party's, and isn't idle
 abbrev pub IsOwned : Party → Entry → Type 0
-IsOwned party e = is_of party e ≡ true
+IsOwned party e = (is_of party e && not (is_idle e)) ≡ true
+
+pub own_of : (party : Party) (e : Entry) → IsOwned party e → is_of party e ≡ true
+own_of party e h = by_tests (is_of party e) (is_idle e) h
+  where
+    by_tests : (a b : Bool) → (a && not b) ≡ true → a ≡ true
+    by_tests true b t = refl
+    by_tests false b t = absurd (cc)
+
+pub own_not_idle : (party : Party) (e : Entry) → IsOwned party e → is_idle e ≡ false
+own_not_idle party e h = by_tests (is_of party e) (is_idle e) h
+  where
+    by_tests : (a b : Bool) → (a && not b) ≡ true → b ≡ false
+    by_tests true true t = absurd (cc)
+    by_tests true false t = refl
+    by_tests false b t = absurd (cc)
 
 -- all of them are
 abbrev pub AreOwned : Party → List Entry → Type 0

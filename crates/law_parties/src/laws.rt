@@ -1,6 +1,6 @@
 //! The laws.
 ghost use Rattle.std.specs.Prelude.{List};
-ghost use Rattle.mpt_rules.specs.Law.{ControllersAreShort, QueuesAreShort, TellsStandBehind};
+ghost use Rattle.mpt_rules.specs.Law.{AnsweredAtMostOnce, ControllersAreShort, QueuesAreShort, QuietIsAnswered, TellsStandBehind};
 ghost use Rattle.mpt_rules.specs.World.Cases.{Case, run, trace};
 ghost use Rattle.mpt_rules.specs.World.Settings.{Setting, first_world};
 
@@ -17,4 +17,14 @@ pub fn queues_stay_short()
 /// What is told stands right after an entry of its own party, over every list of cases.
 pub fn tells_stand_behind()
     ensures { (s : Setting) (cases : List Case) → TellsStandBehind s (trace (first_world s) cases) }
+{}
+
+/// No number is accepted twice or answered twice, and at each end of a reset none is unanswered, over every list of cases.
+pub fn answered_at_most_once()
+    ensures { (s : Setting) (cases : List Case) → AnsweredAtMostOnce s (trace (first_world s) cases) }
+{}
+
+/// Where all is quiet, each accepted number was answered.
+pub fn quiet_is_answered()
+    ensures { (s : Setting) (cases : List Case) → QuietIsAnswered s cases }
 {}

@@ -4,4 +4,7 @@
 
 mod laws;
 
-pub use laws::{controllers_are_short, queues_stay_short, tells_stand_behind};
+pub use laws::{
+    answered_at_most_once, controllers_are_short, queues_stay_short, quiet_is_answered,
+    tells_stand_behind,
+};

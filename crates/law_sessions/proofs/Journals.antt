@@ -1,6 +1,6 @@
 -- The journals of a session: they are of different parties, their stamps rise, and each has its own party's entries; so
 -- their merge is sorted, and each party's part of it is its journal.
-use Rattle.std.proofs.Common.{◌≢◌, ℕ, ◌+◌, ◌<◌, List, [], ◌∷◌, arith}
+use Rattle.std.proofs.Common.{◌≡◌, ◌≢◌, ℕ, ◌+◌, ◌<◌, true, List, [], ◌∷◌, arith}
 use Rattle.std.specs.Prelude.{All}
 use Rattle.std.proofs.lemmas.List.Elements.{All-cons, All-head, All-nil, All-tail, All-weaker}
 use Rattle.mpt_trace.specs.declared.entry.Entry.{Entry}
@@ -18,7 +18,9 @@ use Rattle.mpt_journal.specs.Laws.{AreOfOthers, CasesRise, HasOwnCases, PartiesD
 use Rattle.mpt_journal.proofs.Cases.{cases_are_shown}
 use Rattle.mpt_journal.proofs.Stamps.{merged_by_stamp}
 use Rattle.mpt_journal.proofs.Whole.{never_falls}
-use Rattle.law_parties.proofs.Owned.{AreOwned, fabric_owned, host_owned, ioc_owned, submitter_owned}
+use Rattle.law_parties.proofs.InPlace.{Opens, fabric_opens, host_opens, ioc_opens, submitter_opens}
+use Rattle.law_parties.proofs.Owned.{AreOwned, IsOwned, fabric_owned, host_owned, ioc_owned, own_of, submitter_owned}
+use Rattle.mpt_wire.specs.Walks.Ahead.{is_of}
 
 -- ---- the stamps of a journal rise
 
@@ -49,40 +51,50 @@ rows_rise i (cases ∷ rest) h =
     (submitter_rises i cases (All-head (λ (cs : List (At SubmitterCase)). Rises cs) cases rest h))
     (rows_rise (i + 1) rest (All-tail (λ (cs : List (At SubmitterCase)). Rises cs) cases rest h))
 
--- ---- its entries are its party's
+-- ---- its entries are its party's, and the first of a case stands by itself
 
-abbrev IsOwnBlock : Party → Block → Type 0
-IsOwnBlock party block = AreOwned party block.value
+pub record IsWhole (party : Party) (block : Block) : Type 0 where
+  pub owned : AreOwned party block.value
+  pub opens : Opens block.value
 
-host_own : (host : Host) (cs : List (At HostCase)) → All (IsOwnBlock party.Host) (host_journal host cs)
-host_own host [] = All-nil (IsOwnBlock party.Host)
-host_own host (c ∷ cs) =
-    All-cons (IsOwnBlock party.Host) (record { stamp = c.stamp; value = (host_does host c.value).entries }) (host_journal (host_does host c.value).part cs)
-    (host_owned host c.value) (host_own (host_does host c.value).part cs)
+pub host_whole : (host : Host) (cs : List (At HostCase)) → All (IsWhole party.Host) (host_journal host cs)
+host_whole host [] = All-nil (IsWhole party.Host)
+host_whole host (c ∷ cs) =
+    All-cons (IsWhole party.Host) (record { stamp = c.stamp; value = (host_does host c.value).entries }) (host_journal (host_does host c.value).part cs)
+    (record { owned = host_owned host c.value; opens = host_opens host c.value }) (host_whole (host_does host c.value).part cs)
 
-ioc_own : (ioc : Ioc) (cs : List (At IocCase)) → All (IsOwnBlock party.Ioc) (ioc_journal ioc cs)
-ioc_own ioc [] = All-nil (IsOwnBlock party.Ioc)
-ioc_own ioc (c ∷ cs) =
-    All-cons (IsOwnBlock party.Ioc) (record { stamp = c.stamp; value = (ioc_does ioc c.value).entries }) (ioc_journal (ioc_does ioc c.value).part cs)
-    (ioc_owned ioc c.value) (ioc_own (ioc_does ioc c.value).part cs)
+pub ioc_whole : (ioc : Ioc) (cs : List (At IocCase)) → All (IsWhole party.Ioc) (ioc_journal ioc cs)
+ioc_whole ioc [] = All-nil (IsWhole party.Ioc)
+ioc_whole ioc (c ∷ cs) =
+    All-cons (IsWhole party.Ioc) (record { stamp = c.stamp; value = (ioc_does ioc c.value).entries }) (ioc_journal (ioc_does ioc c.value).part cs)
+    (record { owned = ioc_owned ioc c.value; opens = ioc_opens ioc c.value }) (ioc_whole (ioc_does ioc c.value).part cs)
 
-fabric_own : (fabric : Fabric) (cs : List (At FabricCase)) → All (IsOwnBlock party.Fabric) (fabric_journal fabric cs)
-fabric_own fabric [] = All-nil (IsOwnBlock party.Fabric)
-fabric_own fabric (c ∷ cs) =
-    All-cons (IsOwnBlock party.Fabric) (record { stamp = c.stamp; value = (fabric_does fabric c.value).entries }) (fabric_journal (fabric_does fabric c.value).part cs)
-    (fabric_owned fabric c.value) (fabric_own (fabric_does fabric c.value).part cs)
+pub fabric_whole : (fabric : Fabric) (cs : List (At FabricCase)) → All (IsWhole party.Fabric) (fabric_journal fabric cs)
+fabric_whole fabric [] = All-nil (IsWhole party.Fabric)
+fabric_whole fabric (c ∷ cs) =
+    All-cons (IsWhole party.Fabric) (record { stamp = c.stamp; value = (fabric_does fabric c.value).entries }) (fabric_journal (fabric_does fabric c.value).part cs)
+    (record { owned = fabric_owned fabric c.value; opens = fabric_opens fabric c.value }) (fabric_whole (fabric_does fabric c.value).part cs)
 
-submitter_own : (i : ℕ) (cs : List (At SubmitterCase)) → All (IsOwnBlock (party.Submitter i)) (submitter_journal i cs)
-submitter_own i [] = All-nil (IsOwnBlock (party.Submitter i))
-submitter_own i (c ∷ cs) =
-    All-cons (IsOwnBlock (party.Submitter i)) (record { stamp = c.stamp; value = submitter_does i c.value }) (submitter_journal i cs)
-    (submitter_owned i c.value) (submitter_own i cs)
+pub submitter_whole : (i : ℕ) (cs : List (At SubmitterCase)) → All (IsWhole (party.Submitter i)) (submitter_journal i cs)
+submitter_whole i [] = All-nil (IsWhole (party.Submitter i))
+submitter_whole i (c ∷ cs) =
+    All-cons (IsWhole (party.Submitter i)) (record { stamp = c.stamp; value = submitter_does i c.value }) (submitter_journal i cs)
+    (record { owned = submitter_owned i c.value; opens = submitter_opens i c.value }) (submitter_whole i cs)
 
-rows_own : (i : ℕ) (xs : List (List (At SubmitterCase))) → All HasOwnCases (submitter_rows i xs)
-rows_own i [] = All-nil HasOwnCases
-rows_own i (cases ∷ rest) =
-    All-cons HasOwnCases (record { party = party.Submitter i; moments = submitter_journal i cases }) (submitter_rows (i + 1) rest)
-    (submitter_own i cases) (rows_own (i + 1) rest)
+-- all of a journal's cases are
+abbrev pub HasWholeCases : Row (List Entry) → Type 0
+HasWholeCases row = All (IsWhole row.party) row.moments
+
+rows_whole : (i : ℕ) (xs : List (List (At SubmitterCase))) → All HasWholeCases (submitter_rows i xs)
+rows_whole i [] = All-nil HasWholeCases
+rows_whole i (cases ∷ rest) =
+    All-cons HasWholeCases (record { party = party.Submitter i; moments = submitter_journal i cases }) (submitter_rows (i + 1) rest)
+    (submitter_whole i cases) (rows_whole (i + 1) rest)
+
+own_cases : (row : Row (List Entry)) → HasWholeCases row → HasOwnCases row
+own_cases row h =
+    All-weaker (IsWhole row.party) (λ (b : Block). All (λ (e : Entry). is_of row.party e ≡ true) b.value)
+    (λ b w. All-weaker (IsOwned row.party) (λ (e : Entry). is_of row.party e ≡ true) (λ e o. own_of row.party e o) b.value w.owned) row.moments h
 
 -- ---- no two are of one party
 
@@ -119,12 +131,15 @@ module _ (s : Setting) (x : Session) where
       (All-cons CasesRise fabric_row other_rows (fabric_rises (new_fabric s.disks s.phys) x.fabric h.fabric)
       (rows_rise 0 x.submitters h.submitters)))
 
+  pub journals_whole : All HasWholeCases (journals s x)
+  journals_whole =
+      All-cons HasWholeCases host_row (ioc_row ∷ fabric_row ∷ other_rows) (host_whole (new_host s.queues) x.host)
+      (All-cons HasWholeCases ioc_row (fabric_row ∷ other_rows) (ioc_whole (new_ioc s.phys s.queues) x.ioc)
+      (All-cons HasWholeCases fabric_row other_rows (fabric_whole (new_fabric s.disks s.phys) x.fabric)
+      (rows_whole 0 x.submitters)))
+
   pub journals_own : All HasOwnCases (journals s x)
-  journals_own =
-      All-cons HasOwnCases host_row (ioc_row ∷ fabric_row ∷ other_rows) (host_own (new_host s.queues) x.host)
-      (All-cons HasOwnCases ioc_row (fabric_row ∷ other_rows) (ioc_own (new_ioc s.phys s.queues) x.ioc)
-      (All-cons HasOwnCases fabric_row other_rows (fabric_own (new_fabric s.disks s.phys) x.fabric)
-      (rows_own 0 x.submitters)))
+  journals_own = All-weaker HasWholeCases HasOwnCases own_cases (journals s x) journals_whole
 
   apart_from : (p : Party) (row : Row (List Entry)) (rows : List (Row (List Entry))) → party_number row.party ≢ party_number p → AreOfOthers p rows → AreOfOthers p (row ∷ rows)
   apart_from p row rows differ rest = All-cons (λ (r : Row (List Entry)). party_number r.party ≢ party_number p) row rows differ rest

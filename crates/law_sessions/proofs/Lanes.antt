@@ -147,7 +147,7 @@ module _ (at : ℕ → Entry → Option (At Item)) (p : Party) where
 
 -- ---- who puts on a lane, and who takes
 
-lane_same : (a b : LaneName) → same_lane a b ≡ true → a ≡ b
+pub lane_same : (a b : LaneName) → same_lane a b ≡ true → a ≡ b
 lane_same lane.Down lane.Down h = refl
 lane_same lane.Up lane.Up h = refl
 lane_same (lane.UpOn i) (lane.UpOn j) h = ap lane.UpOn (grind (arith, nat_tests, h))

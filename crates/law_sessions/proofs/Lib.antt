@@ -1,2 +1,4 @@
+mod Blocks
 mod Journals
 mod Lanes
+mod Plans

@@ -18,7 +18,7 @@ IsOwn party m = is_of party m.value ≡ true
 abbrev IsOwnEntry : Party → Entry → Type 0
 IsOwnEntry party e = is_of party e ≡ true
 
-others-entries : (party : Party) (rows : List (Row (List Entry))) → AreOfOthers party rows → AreOfOthers party (map by_entries rows)
+pub others-entries : (party : Party) (rows : List (Row (List Entry))) → AreOfOthers party rows → AreOfOthers party (map by_entries rows)
 others-entries party [] h = All-nil (λ (r : Row Entry). party_number r.party ≢ party_number party)
 others-entries party (row ∷ rows) h =
     All-cons (λ (r : Row Entry). party_number r.party ≢ party_number party) (by_entries row) (map by_entries rows)

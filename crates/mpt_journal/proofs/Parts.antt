@@ -119,7 +119,7 @@ other-entry p q e differ h = elim (cases_Bool (is_of q e)) [
   | inr not ↦ not
 ]
 
-filter-values : (party : Party) (moments : List (Of Entry)) → filter (is_of party) (moment_values moments) ≡ moment_values (filter (is_own party) moments)
+pub filter-values : (party : Party) (moments : List (Of Entry)) → filter (is_of party) (moment_values moments) ≡ moment_values (filter (is_own party) moments)
 filter-values party [] = refl
 filter-values party (m ∷ ms) = elim (cases_Bool (is_of party m.at.value)) [
   | inl own ↦ rw own (ap (λ (zs : List Entry). m.at.value ∷ zs) (filter-values party ms))
@@ -142,7 +142,7 @@ other-all_of p q n (m ∷ ms) differ h =
 abbrev HasOwn : List (Of Entry) → Row Entry → Type 0
 HasOwn moments row = filter (is_own row.party) moments ≡ all_of (party_number row.party) row.moments
 
-own-none : (party : Party) (rows : List (Row Entry)) → AreOfOthers party rows → All HasOwnEntries rows → filter (is_own party) (all_merged rows) ≡ []
+pub own-none : (party : Party) (rows : List (Row Entry)) → AreOfOthers party rows → All HasOwnEntries rows → filter (is_own party) (all_merged rows) ≡ []
 own-none party [] differ h = refl
 own-none party (row ∷ rows) differ h =
     filter-merged_right (is_own party) (all_of (party_number row.party) row.moments) (all_merged rows)
