@@ -17,6 +17,7 @@ use scsi_disk::Bytes;
 use std::alloc::Global;
 use std::collections::VecDeque;
 use std::marker::Model;
+use std::mem;
 
 /// What a host puts on the lane down and what it tells, and what waits for an identifier: handles
 /// whose target reset it is, and requests of the internal class. Where `make_room` was called before,
@@ -153,6 +154,15 @@ impl HostLists {
         ensures rest { self.new ≡ record self.old { told = drop 1 self.old.told } }
     {
         self.told.pop_front()
+    }
+
+    /// Takes all told entries, without memory.
+    pub fn take_told(&mut self, alloc: Global) -> VecDeque<Entry>
+        ensures entries { result.items ≡ self.old.told }
+        ensures rest { self.new ≡ record self.old { told = []; room = 0 } }
+    {
+        self.room = 0;
+        mem::replace(&mut self.told, VecDeque::new(alloc))
     }
 
     /// Takes the handle whose target reset waits first. None exactly where there is none.

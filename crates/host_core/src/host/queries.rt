@@ -1,5 +1,5 @@
 //! What the host is asked about itself, and what it puts and tells.
-ghost use Rattle.std.specs.Prelude.{◌≡◌, ◌<◌, ◌++◌, Some, drop, length, option_copied, option_to_list, slice_get, slice_index_or};
+ghost use Rattle.std.specs.Prelude.{◌≡◌, ◌<◌, ◌++◌, [], Some, drop, length, option_copied, option_to_list, slice_get, slice_index_or};
 ghost use Rattle.mpt_rules.specs.Host.Takes.{host_waits, is_starting};
 ghost use Rattle.mpt_rules.specs.Host.Returns.{down_sent};
 ghost use Rattle.host_core.specs.Driver.{CanSubmit};
@@ -12,6 +12,8 @@ use host_tables::frame_of;
 use mpt_rules::HostFrame;
 use mpt_trace::{Down, Entry, Handle, HostState, Smid};
 use removal::{FIRST_HANDLE, LAST_HANDLE, Phase};
+use std::alloc::Global;
+use std::collections::VecDeque;
 
 impl Host {
     /// The next entry that the host told. None exactly where none is left.
@@ -22,6 +24,27 @@ impl Host {
         ensures reserved { CanSubmit self.old → CanSubmit self.new }
     {
         self.lists.pop_told()
+    }
+
+    // Takes all entries that were told and that nobody asked for.
+    pub(crate) fn take_told(&mut self) -> VecDeque<Entry>
+        ensures entries { result.items ≡ self.old.told }
+        ensures host { self.new.host ≡ self.old.host }
+        ensures told { self.new.told ≡ [] }
+    {
+        self.lists.take_told(self.alloc)
+    }
+
+    // Where the host takes its memory.
+    pub(crate) fn alloc(&self) -> Global {
+        self.alloc
+    }
+
+    // How many reply queues there are.
+    pub(crate) fn queues(&self) -> u8
+        ensures { result ≡ length self.now.host.indices }
+    {
+        self.rings.count()
     }
 
     /// What is put on the lane down next. None exactly where there is nothing.
