@@ -1,0 +1,5 @@
+pub mod Lists
+pub mod HostQueues
+pub mod Queues
+pub mod Reached
+pub mod Made

@@ -1,0 +1,7 @@
+-- What the contracts of the whole say.
+pub mod Whole
+pub mod Parties
+pub mod Reached
+pub mod Making
+pub mod Steps
+pub mod Asking

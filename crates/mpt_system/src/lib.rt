@@ -1,0 +1,25 @@
+//! The whole by steps: the host, the controller and the fabric, the lanes between them, and the trace of
+//! all that happened.
+//!
+//! A contract sees a `System` as the world of the rules and the entries that were told so far, and each
+//! call leaves what the rules say of its case. Some list of cases has led to every `System`, so that what
+//! the law says of all lists of cases holds of it.
+#![tactic(auto)]
+
+mod faults;
+mod making;
+mod parties;
+mod puts;
+mod queries;
+mod stepping;
+mod system;
+mod takes;
+mod told;
+mod up_lane;
+mod up_lanes;
+mod works;
+
+pub use faults::{StepFault, SystemFault};
+pub use mpt_rules::OutOfMemory;
+pub use stepping::Moved;
+pub use system::System;
