@@ -6,3 +6,5 @@ pub mod Taking
 pub mod Places
 pub mod Resets
 pub mod Things
+pub mod Asking
+pub mod Plays

@@ -5,11 +5,12 @@ ghost use Rattle.mpt_messages.specs.HostFrames.{IsAsk};
 ghost use Rattle.mpt_rules.specs.Host.Posts.{frame_asked};
 ghost use Rattle.mpt_rules.specs.Host.Removal.{is_page_of, without_page};
 ghost use Rattle.mpt_rules.specs.Host.Resets.{is_no_post};
-ghost use Rattle.mpt_rules.specs.World.Places.{is_posted_as};
+ghost use Rattle.mpt_rules.specs.World.Places.{is_posted_as, is_return_of};
 ghost use Rattle.mpt_rules.specs.World.Weight.{down_items, is_read};
 ghost use Rattle.host_tables.specs.Lists.{Lists};
 ghost use Rattle.host_tables.specs.Slots.{is_internal};
 
+use crate::reply_frames::address_of;
 use mpt_messages::{HostAsk, host_frame};
 use mpt_rules::{OutOfMemory, Request};
 use mpt_trace::{Down, Entry, Handle, Smid};
@@ -17,6 +18,7 @@ use scsi_disk::Bytes;
 use std::alloc::Global;
 use std::collections::VecDeque;
 use std::marker::Model;
+use std::mem;
 
 /// What a host puts on the lane down and what it tells, and what waits for an identifier: handles
 /// whose target reset it is, and requests of the internal class. Where `make_room` was called before,
@@ -155,6 +157,15 @@ impl HostLists {
         self.told.pop_front()
     }
 
+    /// Takes all told entries, without memory.
+    pub fn take_told(&mut self, alloc: Global) -> VecDeque<Entry>
+        ensures entries { result.items ≡ self.old.told }
+        ensures rest { self.new ≡ record self.old { told = []; room = 0 } }
+    {
+        self.room = 0;
+        mem::replace(&mut self.told, VecDeque::new(alloc))
+    }
+
     /// Takes the handle whose target reset waits first. None exactly where there is none.
     pub fn pop_high(&mut self) -> Option<Handle>
         ensures first { self.old.high ≡ option_to_list result ++ self.new.high }
@@ -196,6 +207,13 @@ impl HostLists {
         self.down.iter().any(|item| is_post_of(item, smid))
     }
 
+    /// Whether a return of this reply frame is to be put.
+    pub fn has_return(&self, frame: u8) -> bool
+        ensures { result ≡ list_any (is_return_of frame) self.now.down }
+    {
+        self.down.iter().any(|item| is_return_of(item, frame))
+    }
+
     /// How many items are to be put, reads not counted.
     pub fn down_count(&self) -> usize
         ensures { result ≡ down_items self.now.down }
@@ -225,6 +243,16 @@ fn is_post_of(item: &Down, smid: Smid) -> bool
 {
     match item {
         Down::Post { descriptor, .. } => *descriptor / 0x1_0000 % 0x1_0000 == u64::from(smid),
+        _ => false,
+    }
+}
+
+// Whether an item returns this reply frame.
+fn is_return_of(item: &Down, frame: u8) -> bool
+    ensures { result ≡ is_return_of frame item.now }
+{
+    match item {
+        Down::Return { address, .. } => *address == address_of(frame),
         _ => false,
     }
 }

@@ -1,5 +1,5 @@
 //! Where identifiers are, and whether anything is left to do.
-ghost use Rattle.std.specs.Prelude.{◌≡◌, ◌≤◌, length, option_map};
+ghost use Rattle.std.specs.Prelude.{◌≡◌, ◌≤◌, ◌^◌, length, option_map};
 ghost use Rattle.mpt_rules.specs.Ioc.Places.{ioc_quiet, smid_at};
 ghost use Rattle.ioc_tables.specs.Queues.{AreApart};
 ghost use Rattle.ioc_core.specs.Places.{place_of};
@@ -52,7 +52,8 @@ impl Ioc {
     /// How many things the controller has to do: items to be put, values not counted; posts that aren't processed; handles
     /// that are to be removed; disks that wait for a handle; and requests that are at the fabric or wait for what is there.
     pub fn things_to_do(&self) -> u128
-        ensures { result ≡ ioc_things self.now.part }
+        ensures value { result ≡ ioc_things self.now.part }
+        ensures small { result ≤ 2 ^ 70 }
     {
         self.lists.said_count()
             + self.lists.out_count() as u128
