@@ -7,10 +7,12 @@
 #![tactic(auto)]
 
 mod faults;
+mod inputs;
 mod making;
 mod parties;
 mod puts;
 mod queries;
+mod refusals;
 mod stepping;
 mod system;
 mod takes;
