@@ -1,5 +1,5 @@
 //! What the host is asked about itself, and what it puts and tells.
-ghost use Rattle.std.specs.Prelude.{◌≡◌, ◌<◌, ◌++◌, Some, length, option_copied, option_to_list, slice_get, slice_index_or};
+ghost use Rattle.std.specs.Prelude.{◌≡◌, ◌<◌, ◌++◌, Some, drop, length, option_copied, option_to_list, slice_get, slice_index_or};
 ghost use Rattle.mpt_rules.specs.Host.Takes.{host_waits, is_starting};
 ghost use Rattle.mpt_rules.specs.Host.Returns.{down_sent};
 ghost use Rattle.host_core.specs.Driver.{CanSubmit};
@@ -16,6 +16,7 @@ impl Host {
     /// The next entry that the host told. None exactly where none is left.
     pub fn answers(&mut self) -> Option<Entry>
         ensures first { self.old.told ≡ option_to_list result ++ self.new.told }
+        ensures rest { self.new.told ≡ drop 1 self.old.told }
         ensures host { self.new.host ≡ self.old.host }
         ensures reserved { CanSubmit self.old → CanSubmit self.new }
     {
