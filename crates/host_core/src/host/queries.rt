@@ -75,6 +75,13 @@ impl Host {
         }
     }
 
+    /// How many reply queues there are, from 1 to 8.
+    pub fn queues(&self) -> u8
+        ensures { result ≡ length self.now.host.indices }
+    {
+        self.rings.count()
+    }
+
     /// Where an identifier is: Free of what is no identifier.
     pub fn smid_at(&self, smid: Smid) -> HostSmid
         ensures { result ≡ host_smid self.now.host smid }
