@@ -1,0 +1,6 @@
+pub mod Leads
+mod Plugs
+mod Granted
+mod Told
+mod Stamped
+mod Submitters

@@ -1,0 +1,5 @@
+use Rattle.std.proofs.Common.{◌≡◌}
+use Rattle.mpt_live.proofs.ioc_end.IocEnd.make_move.Given as goal
+
+abbrev pub invariant-loop-work : goal.invariant-loop-work
+invariant-loop-work g l = l.self.recorded ≡ l.fn.self.recorded

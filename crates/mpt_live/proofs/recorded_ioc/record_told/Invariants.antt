@@ -1,0 +1,14 @@
+use Rattle.std.proofs.Common.{◌≡◌, length}
+use Rattle.std.specs.Prelude.{OnOk}
+use Rattle.mpt_live.specs.Recorded.{stamped_with}
+use Rattle.mpt_live.proofs.recorded_ioc.record_told.Given as goal
+
+abbrev pub invariant-loop-entry : goal.invariant-loop-entry
+invariant-loop-entry l =
+    record {
+      part : l.ioc.part ≡ l.initial.ioc.part;
+      recorded : OnOk l.recorded (stamped_with l.journal.row l.stamp l.ioc.told ≡ stamped_with l.initial.journal.row l.stamp l.initial.ioc.told);
+    }
+
+abbrev pub decreases-loop-entry : goal.decreases-loop-entry
+decreases-loop-entry l = length l.ioc.told

@@ -1,0 +1,28 @@
+//! Threaded sessions: the parties, each with a journal and a clock of its own, on lanes between threads.
+#![tactic(auto)]
+
+mod fabric_end;
+mod giving;
+mod host_end;
+mod ioc_end;
+mod lanes;
+mod news;
+mod pumped;
+mod recorded_fabric;
+mod recorded_host;
+mod recorded_ioc;
+mod recorded_submitter;
+mod refusals;
+mod sent;
+mod submitter_end;
+mod taking;
+
+pub use fabric_end::FabricEnd;
+pub use giving::Giving;
+pub use host_end::HostEnd;
+pub use ioc_end::IocEnd;
+pub use mpt_journal::{Journal, OutOfMemory};
+pub use pumped::Pumped;
+pub use sent::{LAST_STAMP, Sent};
+pub use submitter_end::SubmitterEnd;
+pub use taking::Taking;
