@@ -30,7 +30,7 @@ module _ {X : Type 0} (P : At X → Type 0) where
     | inr waits ↦ rw waits (h.0, each_placed x xs p rest ys h.1)
   ]
 
-  each_merged : (xs ys : List (Of X)) → Each xs → Each ys → Each (merged xs ys)
+  pub each_merged : (xs ys : List (Of X)) → Each xs → Each ys → Each (merged xs ys)
   each_merged [] ys a b = b
   each_merged (x ∷ xs) ys a b = each_placed x xs a.0 (λ zs h. each_merged xs zs a.1 h) ys b
 

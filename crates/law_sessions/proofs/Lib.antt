@@ -1,4 +1,7 @@
 mod Blocks
+mod ClosedCases
 mod Journals
 mod Lanes
+mod MergedCases
+mod OfCases
 mod Plans

@@ -1,4 +1,5 @@
 //! The laws.
+ghost use Rattle.law_sessions.specs.OfCases.{SessionsAreOfCases};
 ghost use Rattle.mpt_rules.specs.Law.{SessionLanesAreQueues, SessionsAreMerged, SessionsFitPlans};
 
 /// The merge of a session's journals is sorted by stamp and party, and each party's part of it is its journal in order.
@@ -14,4 +15,10 @@ pub fn session_lanes_are_queues()
 /// Where each party does by itself what the plan says, the trace of the session fits the plan.
 pub fn sessions_fit_plans()
     ensures { SessionsFitPlans }
+{}
+
+/// Where the lanes of a session are queues, what it does, beside the talk of its submitters with the host, is what some
+/// list of cases does, and each party is left by it as by them.
+pub fn sessions_are_of_cases()
+    ensures { SessionsAreOfCases }
 {}
