@@ -131,6 +131,10 @@ pub keys_front : (k : Keys) (reg value : ℕ) (xs : List Down) → keys_after k 
 unfolding keys_after
 keys_front k reg value xs = refl
 
+pub keys_none : (k : Keys) → keys_after k [] ≡ k
+unfolding keys_after
+keys_none k = refl
+
 -- a front that is no write
 pub keys_pass : (k : Keys) (x : Down) (xs : List Down) → ((reg value : ℕ) → x ≡ down.Write reg value → ⊥) → keys_after k (x ∷ xs) ≡ keys_after k xs
 unfolding keys_after

@@ -10,3 +10,9 @@ pub mod Alike
 pub mod Keys
 pub mod Resetting
 pub mod AdapterKept
+pub mod Coming
+pub mod ResetTurns
+pub mod StepsKept
+pub mod StepsWorld
+pub mod StepsIoc
+pub mod ResetStepsKept

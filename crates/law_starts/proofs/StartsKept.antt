@@ -6,7 +6,7 @@ use Rattle.mpt_rules.specs.World.Settings.{Setting, first_world}
 use Rattle.mpt_rules.specs.World.State.{World}
 use Rattle.law_facts.specs.Facts.{Facts}
 use Rattle.law_facts.specs.History.{History}
-use Rattle.law_facts.specs.DoorAhead.{AdapterBit, written_ahead}
+use Rattle.law_facts.specs.DoorAhead.{AdapterBit, ResetSteps, written_ahead}
 use Rattle.law_starts.proofs.AdapterKept.{adapter_kept}
 use Rattle.mpt_rules.specs.World.Counts.{how_many}
 use Rattle.law_clock.specs.Premises.{Before}
@@ -14,6 +14,7 @@ use Rattle.law_doors.proofs.DoorsKept.{resets_heeded}
 use Rattle.law_starts.specs.Starts.{StartsStand}
 use Rattle.law_starts.proofs.HoldsKept.{holds_kept}
 use Rattle.law_starts.proofs.KnowsKept.{knows_kept}
+use Rattle.law_starts.proofs.ResetStepsKept.{reset_steps_kept}
 use Rattle.law_starts.proofs.WrittenKept.{written_kept}
 
 module _ (w : World) (h : History) (f : Facts w h) (plain : NothingIsStrange w) where
@@ -27,6 +28,9 @@ starts_kept w h c f plain s =
 
 pub adapter_stands : (w : World) (h : History) (c : Case) → Facts w h → NothingIsStrange w → AdapterBit (happens w c)
 adapter_stands w h c f plain = adapter_kept w h (before w h f plain) c
+
+pub reset_steps_stand : (w : World) (h : History) (c : Case) → Facts w h → NothingIsStrange w → StartsStand w → ResetSteps (happens w c)
+reset_steps_stand w h c f plain s = reset_steps_kept w h (before w h f plain) s c
 
 -- and at first nothing goes on
 pub starts_at_first : (s : Setting) → StartsStand (first_world s)

@@ -304,7 +304,7 @@ module _ (w : World) (h : History) (b : Before w h) (u : NothingIsWritten w) whe
   passed x rest i e g s = record { look = λ q. fewer x rest e (u.look q); reset = λ q. fewer x rest e (u.reset (same_reset i g s q)) }
 
   -- behind the write that begins it nothing is written
-  alone : (reg value : ℕ) (rest : List Down) → w.down ≡ down.Write reg value ∷ rest → (is_reset_item (down.Write reg value) || is_stray_reset (down.Write reg value)) ≡ true → how_many is_register_write (rest ++ w.host.out) ≡ 0
+  pub alone : (reg value : ℕ) (rest : List Down) → w.down ≡ down.Write reg value ∷ rest → (is_reset_item (down.Write reg value) || is_stray_reset (down.Write reg value)) ≡ true → how_many is_register_write (rest ++ w.host.out) ≡ 0
   unfolding later register_write_count
   alone reg value rest e r =
       let l : down_line w ≡ down.Write reg value ∷ (rest ++ w.host.out) = ap (λ xs. xs ++ w.host.out) e in

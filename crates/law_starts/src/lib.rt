@@ -1,7 +1,7 @@
-//! Laws of the doorbell: what no write on its way does, and what a controller that isn't OPERATIONAL knows of its host. The functions do
-//! nothing: what their contracts say is all that they are for.
+//! Laws of the doorbell: what no write on its way does, what a controller that isn't OPERATIONAL knows of its host, and the steps of a reset.
+//! The functions do nothing: what their contracts say is all that they are for.
 #![tactic(auto)]
 
 mod laws;
 
-pub use laws::{adapter_bit_is_kept, starts_are_kept, starts_stand_at_first};
+pub use laws::{adapter_bit_is_kept, reset_steps_are_kept, starts_are_kept, starts_stand_at_first};
