@@ -43,8 +43,8 @@ impl Host {
         self.alloc
     }
 
-    // How many reply queues there are.
-    pub(crate) fn queues(&self) -> u8
+    /// How many reply queues there are, from 1 to 8.
+    pub fn queues(&self) -> u8
         ensures { result ≡ length self.now.host.indices }
     {
         self.rings.count()
