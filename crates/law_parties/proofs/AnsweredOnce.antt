@@ -16,7 +16,7 @@ use Rattle.mpt_rules.specs.declared.request.Request.{Request}
 use Rattle.mpt_rules.specs.Fabric.Calls.{fabric_quiet}
 use Rattle.mpt_rules.specs.Host.Parts.{Host}
 use Rattle.mpt_rules.specs.Host.Takes.{host_waits}
-use Rattle.mpt_rules.specs.Law.{AnsweredAtMostOnce, QuietIsAnswered, is_accept, is_answer}
+use Rattle.mpt_rules.specs.Law.{AllAreAnswered, AnsweredAtMostOnce, QuietIsAnswered, is_accept, is_answer}
 use Rattle.mpt_rules.specs.Ioc.Places.{ioc_quiet, is_empty}
 use Rattle.mpt_rules.specs.Outcome.{Happening}
 use Rattle.mpt_rules.specs.Session.OpenCases.{host_does}
@@ -161,13 +161,17 @@ quiet_waits w e = by_tests (lanes_empty w && is_empty w.host.out) (host_waits w.
     by_tests true true c d t = absurd (cc)
     by_tests true false c d t = refl
 
-pub quiet_law : (s : Setting) (cases : List Case) → QuietIsAnswered s cases
-quiet_law s cases quiet n =
+-- a host that waits for nothing has answered all
+pub waits_answered : (s : Setting) (cases : List Case) → host_waits (run (first_world s) cases).host ≡ false → AllAreAnswered (trace (first_world s) cases)
+waits_answered s cases waits n =
     let t = trace (first_world s) cases in
     let has = (of_number n s cases).tied in
     let held = has.held in
     let answers = has.answers in
-    let none = none_open n (run (first_world s) cases).host.pool (waits_none (run (first_world s) cases).host (quiet_waits (run (first_world s) cases) quiet)) in
+    let none = none_open n (run (first_world s) cases).host.pool (waits_none (run (first_world s) cases).host waits) in
     let a = accepts_counted n (none_yet n) t in
     let b = answers_counted n (none_yet n) t in
     omega (arith, a, b, held, answers, none)
+
+pub quiet_law : (s : Setting) (cases : List Case) → QuietIsAnswered s cases
+quiet_law s cases quiet = waits_answered s cases (quiet_waits (run (first_world s) cases) quiet)

@@ -1,4 +1,4 @@
-mod AnsweredOnce
+pub mod AnsweredOnce
 pub mod InPlace
 pub mod Numbers
 pub mod OfParty

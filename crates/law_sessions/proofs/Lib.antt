@@ -1,3 +1,4 @@
+mod Answers
 mod Blocks
 mod ClosedCases
 mod Journals

@@ -1,6 +1,9 @@
 //! The laws.
 ghost use Rattle.law_sessions.specs.OfCases.{SessionsAreOfCases};
-ghost use Rattle.mpt_rules.specs.Law.{SessionLanesAreQueues, SessionsAreMerged, SessionsFitPlans};
+ghost use Rattle.mpt_rules.specs.Law.{AllAreAnswered, AnsweredAtMostOnce, SessionLanesAreQueues, SessionsAreMerged, SessionsFitPlans, TellsStandBehind};
+ghost use Rattle.mpt_rules.specs.Session.Sessions.{EndsQuiet, IsSession, Session, session_trace};
+ghost use Rattle.mpt_rules.specs.World.Settings.{Setting};
+ghost use Rattle.mpt_wire.specs.Queues.Lanes.{LanesInOrder};
 
 /// The merge of a session's journals is sorted by stamp and party, and each party's part of it is its journal in order.
 pub fn sessions_are_merged()
@@ -21,4 +24,16 @@ pub fn sessions_fit_plans()
 /// list of cases does, and each party is left by it as by them.
 pub fn sessions_are_of_cases()
     ensures { SessionsAreOfCases }
+{}
+
+/// Where the lanes of a session are queues, no number is accepted twice or answered twice in it, and at each end of a reset
+/// none is unanswered; where it ends quiet, none is unanswered.
+pub fn sessions_are_answered()
+    ensures once { (s : Setting) (x : Session) → IsSession s x → LanesInOrder (session_trace s x) → AnsweredAtMostOnce s (session_trace s x) }
+    ensures quiet { (s : Setting) (x : Session) → IsSession s x → LanesInOrder (session_trace s x) → EndsQuiet s x → AllAreAnswered (session_trace s x) }
+{}
+
+/// What is told stands right after an entry of its own party, in the merge of any session's journals.
+pub fn session_tells_stand_behind()
+    ensures { (s : Setting) (x : Session) → TellsStandBehind s (session_trace s x) }
 {}
