@@ -3,3 +3,4 @@ pub mod HostQueues
 pub mod Queues
 pub mod Reached
 pub mod Made
+pub mod PlaceLists

@@ -9,6 +9,10 @@
 mod faults;
 mod making;
 mod parties;
+mod place;
+mod places;
+#[cfg(test)]
+mod places_tests;
 mod puts;
 mod queries;
 mod stepping;
@@ -17,9 +21,12 @@ mod takes;
 mod told;
 mod up_lane;
 mod up_lanes;
+mod weight;
 mod works;
 
 pub use faults::{StepFault, SystemFault};
 pub use mpt_rules::OutOfMemory;
+pub use place::{FramePlace, SmidPlace};
+pub use places::Places;
 pub use stepping::Moved;
 pub use system::System;
