@@ -5,3 +5,5 @@ pub mod Reached
 pub mod Making
 pub mod Steps
 pub mod Asking
+pub mod Places
+pub mod Weight
