@@ -149,7 +149,7 @@ stuck_write i reg value s = by_effect (fault_effect i.door reg value s.fault)
     by_effect (inl e) = subst (λ f. Stuck (does_still j f)) (sym e) sj
     by_effect (inr e) = subst (λ f. Stuck (does_still j f)) (sym e) sj
 
-stuck_ahead : (i : Ioc) (xs : List Down) → Stuck i → is_fault (written_ahead i xs).door.state ≡ true
+pub stuck_ahead : (i : Ioc) (xs : List Down) → Stuck i → is_fault (written_ahead i xs).door.state ≡ true
 unfolding written_ahead
 stuck_ahead i [] s = s.fault
 stuck_ahead i (down.Write reg value ∷ xs) s = stuck_ahead (writes_still i reg value) xs (stuck_write i reg value s)

@@ -16,3 +16,7 @@ pub mod StepsKept
 pub mod StepsWorld
 pub mod StepsIoc
 pub mod ResetStepsKept
+pub mod QueuesTurns
+pub mod QueuesTalk
+pub mod QueuesKept
+pub mod QueuesWorld

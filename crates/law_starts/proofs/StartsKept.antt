@@ -1,12 +1,13 @@
 -- What is shown of a start, over all cases: of a world of which all facts hold, and those of a start.
-use Rattle.std.proofs.Common.{refl}
+use Rattle.std.proofs.Common.{refl, ◌∙◌}
 use Rattle.mpt_rules.specs.World.Cases.{Case, happens}
 use Rattle.mpt_rules.specs.Law.{NothingIsStrange}
 use Rattle.mpt_rules.specs.World.Settings.{Setting, first_world}
 use Rattle.mpt_rules.specs.World.State.{World}
 use Rattle.law_facts.specs.Facts.{Facts}
+use Rattle.law_facts.specs.Flights.{Sizes}
 use Rattle.law_facts.specs.History.{History}
-use Rattle.law_facts.specs.DoorAhead.{AdapterBit, ResetSteps, written_ahead}
+use Rattle.law_facts.specs.DoorAhead.{AdapterBit, InitQueues, ResetSteps, written_ahead}
 use Rattle.law_starts.proofs.AdapterKept.{adapter_kept}
 use Rattle.mpt_rules.specs.World.Counts.{how_many}
 use Rattle.law_clock.specs.Premises.{Before}
@@ -14,6 +15,7 @@ use Rattle.law_doors.proofs.DoorsKept.{resets_heeded}
 use Rattle.law_starts.specs.Starts.{StartsStand}
 use Rattle.law_starts.proofs.HoldsKept.{holds_kept}
 use Rattle.law_starts.proofs.KnowsKept.{knows_kept}
+use Rattle.law_starts.proofs.QueuesWorld.{queues_kept}
 use Rattle.law_starts.proofs.ResetStepsKept.{reset_steps_kept}
 use Rattle.law_starts.proofs.WrittenKept.{written_kept}
 
@@ -24,13 +26,16 @@ module _ (w : World) (h : History) (f : Facts w h) (plain : NothingIsStrange w) 
 pub starts_kept : (w : World) (h : History) (c : Case) → Facts w h → NothingIsStrange w → StartsStand w → StartsStand (happens w c)
 starts_kept w h c f plain s =
     let b = before w h f plain in
-    record { nothing_holds = holds_kept w h b s.nothing_holds c; nothing_is_written = written_kept w h b s.nothing_is_written c; knows_no_host = knows_kept w h b s.knows_no_host c }
+    record { nothing_holds = holds_kept w h b s.nothing_holds c; nothing_is_written = written_kept w h b s.nothing_is_written c; knows_no_host = knows_kept w h b s.knows_no_host c; queues_asked = queues_kept w h b s c }
 
 pub adapter_stands : (w : World) (h : History) (c : Case) → Facts w h → NothingIsStrange w → AdapterBit (happens w c)
 adapter_stands w h c f plain = adapter_kept w h (before w h f plain) c
 
 pub reset_steps_stand : (w : World) (h : History) (c : Case) → Facts w h → NothingIsStrange w → StartsStand w → ResetSteps (happens w c)
 reset_steps_stand w h c f plain s = reset_steps_kept w h (before w h f plain) s c
+
+pub all_queues : (w : World) → StartsStand w → Sizes w → InitQueues w
+all_queues w s z l = s.queues_asked.now l ∙ z.lanes
 
 -- and at first nothing goes on
 pub starts_at_first : (s : Setting) → StartsStand (first_world s)
@@ -40,4 +45,5 @@ starts_at_first s =
       nothing_holds = record { writes = refl; read = λ d m a. absurd (cc); hold = refl; hold_ahead = refl; waits = refl };
       nothing_is_written = record { look = λ e. refl; reset = λ e. refl };
       knows_no_host = λ l. refl;
+      queues_asked = record { now = λ l. absurd (cc); ahead = λ l. absurd (cc) };
     }

@@ -12,9 +12,10 @@ use Rattle.mpt_rules.specs.declared.said.Said.TheVariants as said
 use Rattle.mpt_rules.specs.declared.stage.Stage.TheVariants as stage
 use Rattle.mpt_rules.specs.World.Counts.{how_many, is_register_write}
 use Rattle.mpt_rules.specs.World.Lines.{down_line, up_line}
-use Rattle.mpt_rules.specs.World.State.{World}
+use Rattle.mpt_rules.specs.World.State.{World, queues_of}
+use Rattle.mpt_rules.specs.Ioc.Tables.{is_operational}
 use Rattle.law_facts.specs.Clock.{in_reset, is_live}
-use Rattle.law_facts.specs.DoorAhead.{door_ahead}
+use Rattle.law_facts.specs.DoorAhead.{door_ahead, written_ahead}
 
 -- ---- nothing holds the reset
 
@@ -49,9 +50,17 @@ pub record NothingIsWritten (w : World) : Type 0 where
 abbrev pub KnowsNoHost : World → Type 0
 KnowsNoHost w = is_live w ≡ false → w.ioc.door.who_init ≡ 0
 
+-- ---- the reply queues that IOC Init asked for
+
+-- as many as there are, and so it will be when the writes on their way are taken
+pub record QueuesAsked (w : World) : Type 0 where
+  pub now : is_live w ≡ true → w.ioc.vectors ≡ queues_of w
+  pub ahead : is_operational (door_ahead w).state ≡ true → (written_ahead w.ioc (down_line w)).vectors ≡ queues_of w
+
 -- ---- all of them
 
 pub record StartsStand (w : World) : Type 0 where
   pub nothing_holds : NothingHolds w
   pub nothing_is_written : NothingIsWritten w
   pub knows_no_host : KnowsNoHost w
+  pub queues_asked : QueuesAsked w

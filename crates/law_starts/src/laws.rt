@@ -3,8 +3,9 @@ ghost use Rattle.mpt_rules.specs.World.Cases.{Case, happens};
 ghost use Rattle.mpt_rules.specs.Law.{NothingIsStrange};
 ghost use Rattle.mpt_rules.specs.World.Settings.{Setting, first_world};
 ghost use Rattle.mpt_rules.specs.World.State.{World};
-ghost use Rattle.law_facts.specs.DoorAhead.{AdapterBit, ResetSteps};
+ghost use Rattle.law_facts.specs.DoorAhead.{AdapterBit, InitQueues, ResetSteps};
 ghost use Rattle.law_facts.specs.Facts.{Facts};
+ghost use Rattle.law_facts.specs.Flights.{Sizes};
 ghost use Rattle.law_facts.specs.History.{History};
 ghost use Rattle.law_starts.specs.Starts.{StartsStand};
 
@@ -29,4 +30,10 @@ pub fn adapter_bit_is_kept()
 /// in the world that any case leads to.
 pub fn reset_steps_are_kept()
     ensures { (w : World) (h : History) (c : Case) → Facts w h → NothingIsStrange w → StartsStand w → ResetSteps (happens w c) }
+{}
+
+/// Where the facts of a start hold of a world whose tables have their lengths, a controller that is OPERATIONAL has as many vectors as its host has reply
+/// queues.
+pub fn init_asks_for_all_queues()
+    ensures { (w : World) → StartsStand w → Sizes w → InitQueues w }
 {}

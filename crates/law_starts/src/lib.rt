@@ -4,4 +4,7 @@
 
 mod laws;
 
-pub use laws::{adapter_bit_is_kept, reset_steps_are_kept, starts_are_kept, starts_stand_at_first};
+pub use laws::{
+    adapter_bit_is_kept, init_asks_for_all_queues, reset_steps_are_kept, starts_are_kept,
+    starts_stand_at_first,
+};
