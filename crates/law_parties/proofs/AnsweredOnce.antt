@@ -80,7 +80,7 @@ module _ (n : ℕ) where
   abbrev pub none_yet : Tally
   none_yet = record { accepts = 0; answers = 0 }
 
-  accepts_counted : (g : Tally) (t : List Entry) → (state_after (tally_next n) g t).accepts ≡ g.accepts + count_by (is_accept n) t
+  pub accepts_counted : (g : Tally) (t : List Entry) → (state_after (tally_next n) g t).accepts ≡ g.accepts + count_by (is_accept n) t
   accepts_counted g [] = omega arith
   accepts_counted g (e ∷ t) = by_entry e (accepts_counted (tally_next n g e) t) (sum_by-cons (λ (x : Entry). cond (is_accept n x) 1 0) e t)
     where
@@ -89,7 +89,7 @@ module _ (n : ℕ) where
       by_entry (entry.Accept k address smid) ih c = omega (arith, ih, c)
       by_entry _ ih c = omega (arith, ih, c)
 
-  answers_counted : (g : Tally) (t : List Entry) → (state_after (tally_next n) g t).answers ≡ g.answers + count_by (is_answer n) t
+  pub answers_counted : (g : Tally) (t : List Entry) → (state_after (tally_next n) g t).answers ≡ g.answers + count_by (is_answer n) t
   answers_counted g [] = omega arith
   answers_counted g (e ∷ t) = by_entry e (answers_counted (tally_next n g e) t) (sum_by-cons (λ (x : Entry). cond (is_answer n x) 1 0) e t)
     where
@@ -98,7 +98,7 @@ module _ (n : ℕ) where
       by_entry (entry.Answer k how) ih c = omega (arith, ih, c)
       by_entry _ ih c = omega (arith, ih, c)
 
-  behind : (g : Tally) (t u : List Entry) → Passes (tally_next n) (TallyAsks n) g (t ++ u) → Passes (tally_next n) (TallyAsks n) (state_after (tally_next n) g t) u
+  pub behind : (g : Tally) (t u : List Entry) → Passes (tally_next n) (TallyAsks n) g (t ++ u) → Passes (tally_next n) (TallyAsks n) (state_after (tally_next n) g t) u
   behind g [] u p = p
   behind g (e ∷ t) u p = behind (tally_next n g e) t u p.1
 
@@ -107,7 +107,7 @@ module _ (n : ℕ) where
   pub of_number : (s : Setting) (cases : List Case) → Counts n none_yet (trace (first_world s) cases) (run (first_world s) cases).host
   of_number s cases = all_counts none_yet (first_world s) cases (all_are_free n 0 0 finset.empty (sym (ap one_if (finset.contains-empty nat_cmp n))) refl)
 
-at_most_one : (b : Bool) → one_if b ≤ 1
+pub at_most_one : (b : Bool) → one_if b ≤ 1
 at_most_one true = omega arith
 at_most_one false = omega arith
 

@@ -5,6 +5,6 @@ pub mod OfParty
 pub mod Owned
 mod ShortQueues
 pub mod Tallies
-mod TallyCases
-mod TallyReplies
-mod TallyResets
+pub mod TallyCases
+pub mod TallyReplies
+pub mod TallyResets

@@ -1,0 +1,7 @@
+//! Laws of one end alone: what a host and a controller keep whatever the other side does. The functions do nothing: what
+//! their contracts say is all that they are for.
+#![tactic(auto)]
+
+mod laws;
+
+pub use laws::{hosts_answer_once, strange_changes_nothing};
