@@ -1,10 +1,13 @@
 pub mod AnsweredOnce
+pub mod HostModes
 pub mod InPlace
+pub mod ModesAgree
 pub mod Numbers
 pub mod OfParty
 pub mod Owned
 mod ShortQueues
 pub mod Tallies
 mod TallyCases
+pub mod TraceModes
 mod TallyReplies
 mod TallyResets
