@@ -1,5 +1,7 @@
 pub mod AnsweredOnce
+pub mod HostModes
 pub mod InPlace
+pub mod ModesAgree
 pub mod Numbers
 pub mod OfParty
 pub mod Owned
@@ -8,3 +10,7 @@ pub mod Tallies
 pub mod TallyCases
 pub mod TallyReplies
 pub mod TallyResets
+mod TallyCases
+pub mod TraceModes
+mod TallyReplies
+mod TallyResets

@@ -1,6 +1,6 @@
 //! The laws.
 ghost use Rattle.std.specs.Prelude.{List};
-ghost use Rattle.mpt_rules.specs.Law.{AnsweredAtMostOnce, ControllersAreShort, QueuesAreShort, QuietIsAnswered, TellsStandBehind};
+ghost use Rattle.mpt_rules.specs.Law.{AnsweredAtMostOnce, ControllersAreShort, ModesAgree, QueuesAreShort, QuietIsAnswered, TellsStandBehind};
 ghost use Rattle.mpt_rules.specs.World.Cases.{Case, run, trace};
 ghost use Rattle.mpt_rules.specs.World.Settings.{Setting, first_world};
 
@@ -27,4 +27,9 @@ pub fn answered_at_most_once()
 /// Where all is quiet, each accepted number was answered.
 pub fn quiet_is_answered()
     ensures { (s : Setting) (cases : List Case) → QuietIsAnswered s cases }
+{}
+
+/// The machine's mode after the trace of a list of cases is the host's.
+pub fn modes_agree()
+    ensures { (s : Setting) (cases : List Case) → ModesAgree s cases }
 {}

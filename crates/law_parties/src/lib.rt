@@ -5,6 +5,6 @@
 mod laws;
 
 pub use laws::{
-    answered_at_most_once, controllers_are_short, queues_stay_short, quiet_is_answered,
-    tells_stand_behind,
+    answered_at_most_once, controllers_are_short, modes_agree, queues_stay_short,
+    quiet_is_answered, tells_stand_behind,
 };

@@ -6,3 +6,4 @@ mod Lanes
 mod MergedCases
 mod OfCases
 mod Plans
+mod SessionModes
