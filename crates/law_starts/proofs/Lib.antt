@@ -20,3 +20,4 @@ pub mod QueuesTurns
 pub mod QueuesTalk
 pub mod QueuesKept
 pub mod QueuesWorld
+pub mod LookKept

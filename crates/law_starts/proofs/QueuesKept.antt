@@ -1,4 +1,5 @@
 -- Each case keeps that IOC Init asked for all reply queues.
+use Rattle.mpi_doorbell.specs.declared.effect.Effect.{Effect}
 use Rattle.std.proofs.Common.{◌≡◌, ℕ, ◌+◌, ◌≤◌, ◌==◌, ◌&&◌, ◌||◌, ◌⊎◌, inl, inr, not, if◌then◌else◌, Bool, true, false, List, [], ◌∷◌, ◌++◌, append_assoc, bit_and, bit_or, get_or, length, length-set, set, take, Option, Some, None, is_none, is_some, refl, ap, sym, ◌∙◌, subst, arith}
 use Rattle.std.specs.List.{filter}
 use Rattle.mpi_doorbell.specs.Bytes.{has}
@@ -105,29 +106,23 @@ unit_writes : (next_turn unit_reset None).writes ≡ down.Write DOORBELL unit_re
 unfolding turn_from
 unit_writes = refl
 
--- an idle door is asked nothing by the message unit reset
-unit_asks_none : (r : DoorRegisters) → r.handshake ≡ Idle → (count : ℕ) (bytes : List ℕ) → (register_written r DOORBELL unit_reset_dword).effect ≡ effect.Asked count bytes → ⊥
-unit_asks_none r i count bytes e = by_tests (is_fault r.state) r.handshake i e
+-- an idle door takes the message unit reset as such, unless it is in FAULT
+unit_effect : (r : DoorRegisters) → r.handshake ≡ Idle → ((register_written r DOORBELL unit_reset_dword).effect ≡ effect.UnitReset) ⊎ ((register_written r DOORBELL unit_reset_dword).effect ≡ effect.None)
+unit_effect r i = by_tests (is_fault r.state) r.handshake i
   where
-    by_tests : (a : Bool) (h : Handshake) → h ≡ Idle
-        → (if a then Rattle.mpi_doorbell.specs.DoorRegisters.quietly r else (if is_idle h then Rattle.mpi_doorbell.specs.DoorRegisters.function_written r (Rattle.std.proofs.Common.◌/◌ unit_reset_dword (Rattle.std.proofs.Common.◌^◌ 2 24)) (Rattle.std.proofs.Common.◌%◌ (Rattle.std.proofs.Common.◌/◌ unit_reset_dword (Rattle.std.proofs.Common.◌^◌ 2 16)) 256) else record { registers = record r { handshake = dword_taken h unit_reset_dword }; effect = asked_by h unit_reset_dword })).effect ≡ effect.Asked count bytes → ⊥
-    by_tests true h i e = let z : effect.None ≡ effect.Asked count bytes = e in cc
-    by_tests false Idle i e = let z : effect.UnitReset ≡ effect.Asked count bytes = e in cc
-    by_tests false (Collects missing message) i e = absurd (apart missing message i)
-      where
-        apart : (m : ℕ) (xs : List ℕ) → Collects m xs ≡ Idle → ⊥
-        apart m xs e = cc
-    by_tests false (AskedBytes message) i e = absurd (apart message i)
-      where
-        apart : (xs : List ℕ) → AskedBytes xs ≡ Idle → ⊥
-        apart xs e = cc
-    by_tests false (Replies left) i e = absurd (apart left i)
-      where
-        apart : (xs : List ℕ) → Replies xs ≡ Idle → ⊥
-        apart xs e = cc
+    of : Bool → Handshake → Effect
+    of a h =
+        (if a then Rattle.mpi_doorbell.specs.DoorRegisters.quietly r else (if is_idle h then Rattle.mpi_doorbell.specs.DoorRegisters.function_written r (Rattle.std.proofs.Common.◌/◌ unit_reset_dword (Rattle.std.proofs.Common.◌^◌ 2 24)) (Rattle.std.proofs.Common.◌%◌ (Rattle.std.proofs.Common.◌/◌ unit_reset_dword (Rattle.std.proofs.Common.◌^◌ 2 16)) 256) else record { registers = record r { handshake = dword_taken h unit_reset_dword }; effect = asked_by h unit_reset_dword })).effect
+
+    by_tests : (a : Bool) (h : Handshake) → h ≡ Idle → (of a h ≡ effect.UnitReset) ⊎ (of a h ≡ effect.None)
+    by_tests true h i = inr refl
+    by_tests false Idle i = inl refl
+    by_tests false (Collects missing message) i = absurd (cc)
+    by_tests false (AskedBytes message) i = absurd (cc)
+    by_tests false (Replies left) i = absurd (cc)
 
 pub alike_queues : (q : ℕ) (i j : Ioc) → Alike i j → QueuesIn q j → QueuesIn q i
-alike_queues q i j a p = record { vectors = λ l. a.vectors ∙ p.vectors (sym (ap (λ (r : DoorRegisters). is_operational r.state) a.door) ∙ l); waits = ap (λ (r : DoorRegisters). r.link_waits) a.door ∙ p.waits }
+alike_queues q i j a p = record { whole = ap (λ (r : DoorRegisters). is_fault r.state) a.door ∙ p.whole; vectors = λ l. a.vectors ∙ p.vectors (sym (ap (λ (r : DoorRegisters). is_operational r.state) a.door) ∙ l); waits = ap (λ (r : DoorRegisters). r.link_waits) a.door ∙ p.waits }
 
 module _ (w : World) (h : History) (b : Before w h) (s : StartsStand w) where
   k : Clock w h
@@ -147,10 +142,10 @@ module _ (w : World) (h : History) (b : Before w h) (s : StartsStand w) where
   A = written_ahead w.ioc (down_line w)
 
   pub now : QueuesIn (queues_of w) w.ioc
-  now = record { vectors = s.queues_asked.now; waits = s.nothing_holds.waits }
+  now = record { whole = k.phase_table.whole; vectors = s.queues_asked.now; waits = s.nothing_holds.waits }
 
   pub ahead : QueuesIn (queues_of w) (written_ahead w.ioc (down_line w))
-  ahead = record { vectors = s.queues_asked.ahead; waits = (unheld_ahead w.ioc (down_line w) s.nothing_holds.writes (record { hold = s.nothing_holds.hold; waits = s.nothing_holds.waits })).waits }
+  ahead = record { whole = b.facts.doorbell.sound.whole; vectors = s.queues_asked.ahead; waits = (unheld_ahead w.ioc (down_line w) s.nothing_holds.writes (record { hold = s.nothing_holds.hold; waits = s.nothing_holds.waits })).waits }
 
   -- ---- what goes behind the line
 
@@ -224,7 +219,15 @@ module _ (w : World) (h : History) (b : Before w h) (s : StartsStand w) where
 
   unit_ahead : (i : Ioc) → i.door.handshake ≡ Idle → QueuesIn (queues_of w) i → QueuesIn (queues_of w) (written_ahead i (down.Write DOORBELL unit_reset_dword ∷ []))
   unfolding written_ahead
-  unit_ahead i z p = quietly_written (queues_of w) few i DOORBELL unit_reset_dword p (λ count bytes e. unit_asks_none i.door z count bytes e)
+  unit_ahead i z p = quietly_written (queues_of w) few i DOORBELL unit_reset_dword p (λ count bytes e. asks (unit_effect i.door z) count bytes e) (λ code e. faults (unit_effect i.door z) code e)
+    where
+      asks : ((register_written i.door DOORBELL unit_reset_dword).effect ≡ effect.UnitReset) ⊎ ((register_written i.door DOORBELL unit_reset_dword).effect ≡ effect.None) → (count : ℕ) (bytes : List ℕ) → (register_written i.door DOORBELL unit_reset_dword).effect ≡ effect.Asked count bytes → ⊥
+      asks (inl u) count bytes e = let c : effect.UnitReset ≡ effect.Asked count bytes = sym u ∙ e in cc
+      asks (inr u) count bytes e = let c : effect.None ≡ effect.Asked count bytes = sym u ∙ e in cc
+
+      faults : ((register_written i.door DOORBELL unit_reset_dword).effect ≡ effect.UnitReset) ⊎ ((register_written i.door DOORBELL unit_reset_dword).effect ≡ effect.None) → (code : ℕ) → (register_written i.door DOORBELL unit_reset_dword).effect ≡ effect.Fault code → ⊥
+      faults (inl u) code e = let c : effect.UnitReset ≡ effect.Fault code = sym u ∙ e in cc
+      faults (inr u) code e = let c : effect.None ≡ effect.Fault code = sym u ∙ e in cc
 
   unread_machine : w.host.reading ≡ false → w.host.machine ≡ None
   unread_machine r = by_machine w.host.machine refl

@@ -146,10 +146,13 @@ module _ (q : ℕ) (few : Rattle.std.proofs.Common.◌≤◌ q 8) (Q : Talk → 
           let t : round (record { host = d; value = v; registers = i.door }) ≡ record { host = (next_step d v).door; value = None; registers = (register_written i.door reg value).registers } =
           ap (λ s. let k : Talk = record { host = (next_step d v).door; value = value_given s i.door; registers = (step_taken s i.door).registers } in k) e in
           let l2 = subst (LeadsIn Q m) t l.1 in
-          ih m (writes_still i reg value) (quietly_written q few i reg value p (λ count bytes z. never count bytes (sym g ∙ z))) (subst (λ r. LeadsIn Q m (record { host = (next_step d v).door; value = None; registers = r })) (sym c) l2)
+          ih m (writes_still i reg value) (quietly_written q few i reg value p (λ count bytes z. never count bytes (sym g ∙ z)) (λ code z. no_fault code (sym g ∙ z))) (subst (λ r. LeadsIn Q m (record { host = (next_step d v).door; value = None; registers = r })) (sym c) l2)
         where
           never : (count : ℕ) (bytes : List ℕ) → effect.None ≡ effect.Asked count bytes → ⊥
           never count bytes z = cc
+
+          no_fault : (code : ℕ) → effect.None ≡ effect.Fault code → ⊥
+          no_fault code z = cc
 
       by_step : (s : DoorStep) → (next_step d v).step ≡ s → (n : ℕ) → LeadsIn Q n (record { host = d; value = v; registers = i.door }) → ((m : ℕ) (i2 : Ioc) → QueuesIn q i2 → NextLeads d v m i2 → TailOwes f d v i2) → QueuesIn q (written_ahead i (turn_from (suc f) (next_step d v).door s).writes)
       by_step (step.Write reg value) e n l ih = wrote reg value e n l ih

@@ -1,4 +1,6 @@
 -- The reply queues that IOC Init asks for, as writes come to the controller: only an IOC Init makes it OPERATIONAL, and the host's asks for all its queues.
+use Rattle.mpi_doorbell.specs.DoorRegisters.{is_fault}
+use Rattle.mpi_doorbell.specs.declared.state.IocState.TheVariants as ioc_state
 use Rattle.std.proofs.Common.{◌≡◌, ℕ, zero, suc, ◌≤◌, ◌==◌, ◌⊎◌, inl, inr, Bool, true, false, if◌then◌else◌, List, [], ◌∷◌, length, slice_index, Option, Some, None, refl, ap, sym, ◌∙◌, subst, arith}
 use Rattle.std.proofs.Math.Seq.{take-append_seam}
 use Rattle.ioc_msgs.specs.IocFacts as facts
@@ -33,9 +35,11 @@ use Rattle.law_moves.proofs.Counted.{how_many-cons}
 use Rattle.law_moves.proofs.Registers.{writes_are}
 use Rattle.law_doors.proofs.Whole.{waits_stay}
 use Rattle.law_starts.proofs.Answering.{answer_leaves}
+use Rattle.law_starts.proofs.Resetting.{reset_write}
 
--- a controller that is OPERATIONAL has so many vectors
+-- a controller that isn't in FAULT, and has so many vectors where it is OPERATIONAL
 pub record QueuesIn (q : ℕ) (i : Ioc) : Type 0 where
+  pub whole : is_fault (state_of i) ≡ false
   pub vectors : is_operational (state_of i) ≡ true → i.vectors ≡ q
   pub waits : i.door.link_waits ≡ false
 
@@ -75,13 +79,13 @@ module _ (i : Ioc) (message : List ℕ) where
 
   -- any message: the vectors change to those that it asks for, if they do
   abbrev SameOrAsked : Ioc → Type 0
-  SameOrAsked j = (SameQueues i j) ⊎ (j.vectors ≡ host_msix_vectors_in message)
+  SameOrAsked j = (SameQueues i j) ⊎ ((j.vectors ≡ host_msix_vectors_in message) × (state_of j ≡ ioc_state.Operational))
 
   begins : (n : ℕ) → SameOrAsked (registers.inits i message n)
   begins n = by_test (n == IOC_STATUS_SUCCESS)
     where
       by_test : (b : Bool) → SameOrAsked (if b then registers.operates (registers.ends_init i n) message else registers.ends_init i n)
-      by_test true = inr refl
+      by_test true = inr (refl, refl)
       by_test false = inl (record { state = refl; vectors = refl })
 
   any_serve : (f : Option Function) → SameOrAsked (registers.serves_handshake i message f)
@@ -128,7 +132,7 @@ vectors_asked (suc (suc (suc (suc (suc (suc (suc (suc (suc n))))))))) l = absurd
 
 module _ (q : ℕ) (few : q ≤ 8) where
   same_queues : (i j : Ioc) → SameQueues i j → j.door.link_waits ≡ false → QueuesIn q i → QueuesIn q j
-  same_queues i j s w p = record { vectors = λ l. s.vectors ∙ p.vectors (sym (ap is_operational s.state) ∙ l); waits = w }
+  same_queues i j s w p = record { whole = ap is_fault s.state ∙ p.whole; vectors = λ l. s.vectors ∙ p.vectors (sym (ap is_operational s.state) ∙ l); waits = w }
 
   -- a message of the host's is answered
   answers : (i : Ioc) (a : HostAsk) → AsksFor q a → QueuesIn q i → QueuesIn q (registers.handshakes i (asked_bytes a))
@@ -141,7 +145,7 @@ module _ (q : ℕ) (few : q ≤ 8) where
 
       by_what : SameOrAsked i (asked_bytes (ask.Init q)) (registers.handshakes i (asked_bytes (ask.Init q))) → QueuesIn q (registers.handshakes i (asked_bytes (ask.Init q)))
       by_what (inl s) = same_queues i (registers.handshakes i (asked_bytes (ask.Init q))) s w p
-      by_what (inr e) = record { vectors = λ l. e ∙ vectors_asked q few; waits = w }
+      by_what (inr e) = record { whole = ap is_fault e.1; vectors = λ l. e.0 ∙ vectors_asked q few; waits = w }
 
   -- ---- a write
 
@@ -150,21 +154,18 @@ module _ (q : ℕ) (few : q ≤ 8) where
     j = record i { door = (register_written i.door reg value).registers }
 
     written : QueuesIn q j
-    written = record { vectors = λ l. p.vectors (sym (ap is_operational (writes_are i.door reg value p.waits).state) ∙ l); waits = waits_stay i.door reg value p.waits }
+    written = record { whole = ap is_fault (writes_are i.door reg value p.waits).state ∙ p.whole; vectors = λ l. p.vectors (sym (ap is_operational (writes_are i.door reg value p.waits).state) ∙ l); waits = waits_stay i.door reg value p.waits }
 
     -- that asks nothing
-    pub quietly_written : ((count : ℕ) (bytes : List ℕ) → (register_written i.door reg value).effect ≡ effect.Asked count bytes → ⊥) → QueuesIn q (writes_still i reg value)
-    quietly_written n = by_effect (register_written i.door reg value).effect refl
+    pub quietly_written : ((count : ℕ) (bytes : List ℕ) → (register_written i.door reg value).effect ≡ effect.Asked count bytes → ⊥) → ((code : ℕ) → (register_written i.door reg value).effect ≡ effect.Fault code → ⊥) → QueuesIn q (writes_still i reg value)
+    quietly_written n m = by_effect (register_written i.door reg value).effect refl
       where
         by_effect : (f : Effect) → (register_written i.door reg value).effect ≡ f → QueuesIn q (does_still j f)
         by_effect effect.None e = written
         by_effect (effect.Asked count bytes) e = absurd (n count bytes e)
         by_effect effect.UnitReset e = written
         by_effect effect.AdapterReset e = written
-        by_effect (effect.Fault code) e = record { vectors = λ l. absurd (never l); waits = written.waits }
-          where
-            never : false ≡ true → ⊥
-            never e = cc
+        by_effect (effect.Fault code) e = absurd (m code e)
 
     -- that asks a message of the host's
     pub asks_so : (a : HostAsk) → AsksFor q a → (register_written i.door reg value).effect ≡ effect.Asked (length (asked_bytes a)) (padded (asked_bytes a)) → QueuesIn q (writes_still i reg value)
@@ -177,7 +178,8 @@ module _ (q : ℕ) (few : q ≤ 8) where
   doorless i (down.Write reg value ∷ xs) z p =
       let c = how_many-cons is_doorbell_write (down.Write reg value) xs in
       doorless (writes_still i reg value) xs (omega (arith, z, c))
-      (quietly_written i reg value p (λ count bytes e. let r = (writes_are i.door reg value p.waits).asked count bytes e in let o : one_if (reg == DOORBELL) ≡ 1 = ap (λ m. one_if (m == DOORBELL)) r in absurd (omega (arith, z, c, o))))
+      (quietly_written i reg value p (λ count bytes e. let r = (writes_are i.door reg value p.waits).asked count bytes e in let o : one_if (reg == DOORBELL) ≡ 1 = ap (λ m. one_if (m == DOORBELL)) r in absurd (omega (arith, z, c, o)))
+      (λ code e. let o : one_if (reg == DOORBELL) ≡ 1 = ap one_if ((reset_write i.door reg value).faults code e) in absurd (omega (arith, z, c, o))))
   doorless i (down.Read reg ∷ xs) z p = let c = how_many-cons is_doorbell_write (down.Read reg) xs in doorless i xs (omega (arith, z, c)) p
   doorless i (down.Post d f b ∷ xs) z p = let c = how_many-cons is_doorbell_write (down.Post d f b) xs in doorless i xs (omega (arith, z, c)) p
   doorless i (down.Return a n ∷ xs) z p = let c = how_many-cons is_doorbell_write (down.Return a n) xs in doorless i xs (omega (arith, z, c)) p

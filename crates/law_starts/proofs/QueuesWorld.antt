@@ -1,4 +1,5 @@
 -- Each case keeps that IOC Init asked for all reply queues: the controller, and all cases.
+use Rattle.law_facts.specs.DoorAhead.{door_ahead}
 use Rattle.std.proofs.Common.{◌≡◌, ℕ, ◌&&◌, ◌⊎◌, inl, inr, not, if◌then◌else◌, Bool, true, false, List, [], ◌∷◌, ◌++◌, append_assoc, length, length-set, set, slice_index, take, Option, Some, None, refl, ap, sym, ◌∙◌, subst}
 use Rattle.mpi_doorbell.specs.DoorRegisters.{DoorRegisters, is_fault, linked_up, register_written}
 use Rattle.mpi_doorbell.specs.declared.effect.Effect.{Effect}
@@ -148,12 +149,12 @@ pub record QueuesOf (q : ℕ) (i : Ioc) (line : List Down) : Type 0 where
   pub now : QueuesIn q i
   pub ahead : QueuesIn q (written_ahead i line)
 
-down_queues : (q : ℕ) (i : Ioc) (line : List Down) → is_operational (state_of i) ≡ false → i.door.link_waits ≡ false → how_many is_register_write line ≡ 0 → QueuesOf q i line
-down_queues q i line n l z =
+down_queues : (q : ℕ) (i : Ioc) (line : List Down) → is_operational (state_of i) ≡ false → is_fault (state_of i) ≡ false → i.door.link_waits ≡ false → how_many is_register_write line ≡ 0 → QueuesOf q i line
+down_queues q i line n f l z =
     let c = quiet_ahead i line z in
     record {
-      now = record { vectors = λ e. contrary (is_operational (state_of i)) n e; waits = l };
-      ahead = record { vectors = λ e. contrary (is_operational (state_of i)) n (sym (ap (λ (r : DoorRegisters). is_operational r.state) c) ∙ e); waits = ap (λ (r : DoorRegisters). r.link_waits) c ∙ l };
+      now = record { whole = f; vectors = λ e. contrary (is_operational (state_of i)) n e; waits = l };
+      ahead = record { whole = ap (λ (r : DoorRegisters). is_fault r.state) c ∙ f; vectors = λ e. contrary (is_operational (state_of i)) n (sym (ap (λ (r : DoorRegisters). is_operational r.state) c) ∙ e); waits = ap (λ (r : DoorRegisters). r.link_waits) c ∙ l };
     }
 
 module _ (w : World) (h : History) (b : Before w h) (s : StartsStand w) where
@@ -170,8 +171,8 @@ module _ (w : World) (h : History) (b : Before w h) (s : StartsStand w) where
   here = record { now = by_host.now w h b s; ahead = by_host.ahead w h b s }
 
   -- what is ahead stays ahead
-  same_ahead : (i : Ioc) (line : List Down) → written_ahead i line ≡ A → i.door.link_waits ≡ false → OnIoc i line
-  same_ahead i line e l = record { now = record { vectors = vectors; waits = l }; ahead = subst (QueuesIn (queues_of w)) (sym e) here.ahead }
+  same_ahead : (i : Ioc) (line : List Down) → written_ahead i line ≡ A → is_fault (state_of i) ≡ false → i.door.link_waits ≡ false → OnIoc i line
+  same_ahead i line e f l = record { now = record { whole = f; vectors = vectors; waits = l }; ahead = subst (QueuesIn (queues_of w)) (sym e) here.ahead }
     where
       vectors : is_operational (state_of i) ≡ true → i.vectors ≡ queues_of w
       vectors v =
@@ -198,11 +199,11 @@ module _ (w : World) (h : History) (b : Before w h) (s : StartsStand w) where
           sym (ap (λ xs. written_ahead w.ioc (xs ++ w.host.out)) e ∙ (ahead-write w.ioc reg value (rest ++ w.host.out) ∙ ap (λ g. written_ahead (does_still j g) (rest ++ w.host.out)) y))
 
       begins : Resets (register_written w.ioc.door reg value).effect → OnIoc (forgets j) (rest ++ w.host.out)
-      begins r = down_queues (queues_of w) (forgets j) (rest ++ w.host.out) refl refl (alone w h b s.nothing_is_written reg value rest e ((writes_are w.ioc.door reg value s.nothing_holds.waits).resets r))
+      begins r = down_queues (queues_of w) (forgets j) (rest ++ w.host.out) refl refl refl (alone w h b s.nothing_is_written reg value rest e ((writes_are w.ioc.door reg value s.nothing_holds.waits).resets r))
 
       by_effect : (f : Effect) → (register_written w.ioc.door reg value).effect ≡ f → is_fault (state_of (registers.after_effect j f).part) ≡ false → OnIoc (registers.after_effect j f).part (rest ++ w.host.out)
-      by_effect effect.None y n = same_ahead j (rest ++ w.host.out) (line effect.None y) l
-      by_effect (effect.Asked count bytes) y n = same_ahead (registers.handshakes j (take count bytes)) (rest ++ w.host.out) (line (effect.Asked count bytes) y) ((answer_leaves j (take count bytes)).waits ∙ l)
+      by_effect effect.None y n = same_ahead j (rest ++ w.host.out) (line effect.None y) n l
+      by_effect (effect.Asked count bytes) y n = same_ahead (registers.handshakes j (take count bytes)) (rest ++ w.host.out) (line (effect.Asked count bytes) y) n ((answer_leaves j (take count bytes)).waits ∙ l)
       by_effect effect.UnitReset y n = begins (subst Resets (sym y) tt)
       by_effect effect.AdapterReset y n = begins (subst Resets (sym y) tt)
       by_effect (effect.Fault code) y n = absurd (cc)
@@ -234,7 +235,7 @@ module _ (w : World) (h : History) (b : Before w h) (s : StartsStand w) where
 
   linked : is_reset (state_of w.ioc) ≡ true → OnIoc (record w.ioc { door = linked_up w.ioc.door }) (down_line w)
   linked r =
-      down_queues (queues_of w) (record w.ioc { door = linked_up w.ioc.door }) (down_line w) (ap is_operational (linked_is w.ioc.door s.nothing_holds.hold)) (waits w.ioc.door.hold_reset s.nothing_holds.hold)
+      down_queues (queues_of w) (record w.ioc { door = linked_up w.ioc.door }) (down_line w) (ap is_operational (linked_is w.ioc.door s.nothing_holds.hold)) (ap is_fault (linked_is w.ioc.door s.nothing_holds.hold)) (waits w.ioc.door.hold_reset s.nothing_holds.hold)
       (s.nothing_is_written.reset (ap (λ c. c && is_reset (state_of w.ioc)) (k.phase_table.reset r) ∙ r))
     where
       waits : (c : Bool) → c ≡ false → (if true && not c then record (record w.ioc.door { reset_adapter = false; link_waits = true }) { state = ioc_state.Ready; link_waits = false } else record w.ioc.door { reset_adapter = false; link_waits = true }).link_waits ≡ false
@@ -295,5 +296,12 @@ module _ (w : World) (h : History) (b : Before w h) (s : StartsStand w) where
         calms = λ v. here;
       }
 
+  after : (c : Case) → OnWorld (happens w c)
+  after c = kept Kept w b.plain owes (λ v. here) c (whole_kept w h b.facts b.plain c)
+
   pub queues_kept : (c : Case) → QueuesAsked (happens w c)
-  queues_kept c = let p = kept Kept w b.plain owes (λ v. here) c (whole_kept w h b.facts b.plain c) in record { now = p.now.vectors; ahead = p.ahead.vectors }
+  queues_kept c = record { now = (after c).now.vectors; ahead = (after c).ahead.vectors }
+
+  -- and no FAULT is ahead
+  pub whole_ahead : (c : Case) → is_fault (door_ahead (happens w c)).state ≡ false
+  whole_ahead c = (after c).ahead.whole

@@ -81,13 +81,14 @@ pub record ResetWrite (r : DoorRegisters) (reg value : ℕ) (w : Written) : Type
   pub adapter : w.effect ≡ effect.AdapterReset → (is_diagnostic_write (down.Write reg value) ≡ true) × (w.registers.reset_adapter ≡ true)
   pub unit : w.effect ≡ effect.UnitReset → (reg == DOORBELL) ≡ true
   pub others_leave : (w.effect ≡ effect.AdapterReset → ⊥) → w.registers.reset_adapter ≡ r.reset_adapter
+  pub faults : (code : ℕ) → w.effect ≡ effect.Fault code → (reg == DOORBELL) ≡ true
 
 module _ (r : DoorRegisters) (reg value : ℕ) where
   quiet : (x : DoorRegisters) → x.reset_adapter ≡ r.reset_adapter → ResetWrite r reg value (quietly x)
-  quiet x e = record { adapter = λ q. absurd (cc); unit = λ q. absurd (cc); others_leave = λ n. e }
+  quiet x e = record { adapter = λ q. absurd (cc); unit = λ q. absurd (cc); others_leave = λ n. e; faults = λ c q. absurd (cc) }
 
-  fault : (code : ℕ) → ResetWrite r reg value (record { registers = r; effect = effect.Fault code })
-  fault code = record { adapter = λ q. absurd (cc); unit = λ q. absurd (cc); others_leave = λ n. refl }
+  fault : (reg == DOORBELL) ≡ true → (code : ℕ) → ResetWrite r reg value (record { registers = r; effect = effect.Fault code })
+  fault e code = record { adapter = λ q. absurd (cc); unit = λ q. absurd (cc); others_leave = λ n. refl; faults = λ c q. e }
 
   diagnostic : (reg == HOST_DIAGNOSTIC) ≡ true → ResetWrite r reg value (diagnostic_written r value)
   diagnostic e = by_both (is_unlocked r) (has value DIAG_RESET_ADAPTER) refl
@@ -104,34 +105,34 @@ module _ (r : DoorRegisters) (reg value : ℕ) where
       release false = quiet held refl
 
       by_both : (a c : Bool) → has value DIAG_RESET_ADAPTER ≡ c → ResetWrite r reg value (if a then (if c then reset_begun held else quietly (released held)) else quietly r)
-      by_both true true f = record { adapter = λ q. (both (reg == HOST_DIAGNOSTIC) (has value DIAG_RESET_ADAPTER) e f, refl); unit = λ q. absurd (cc); others_leave = λ n. absurd (n refl) }
+      by_both true true f = record { adapter = λ q. (both (reg == HOST_DIAGNOSTIC) (has value DIAG_RESET_ADAPTER) e f, refl); unit = λ q. absurd (cc); others_leave = λ n. absurd (n refl); faults = λ c q. absurd (cc) }
       by_both true false f = release (held.link_waits && not held.hold_reset)
       by_both false c f = quiet r refl
 
-  opened : (n : ℕ) → ResetWrite r reg value (handshake_opened r n)
-  opened n = by_size (nat_lt 0 n && nat_le n 32)
+  opened : (reg == DOORBELL) ≡ true → (n : ℕ) → ResetWrite r reg value (handshake_opened r n)
+  opened e n = by_size (nat_lt 0 n && nat_le n 32)
     where
       by_size : (c : Bool) → ResetWrite r reg value (if c then quietly (record r { handshake = Collects n []; ioc2sys = true }) else record { registers = r; effect = effect.Fault 1 })
       by_size true = quiet (record r { handshake = Collects n []; ioc2sys = true }) refl
-      by_size false = fault 1
+      by_size false = fault e 1
 
   doorbell : (reg == DOORBELL) ≡ true → ResetWrite r reg value (doorbell_written r value)
   doorbell e = by_idle (is_idle r.handshake)
     where
       function : (a c : Bool) → ResetWrite r reg value (if a then handshake_opened r (value / 2 ^ DOORBELL_ADD_DWORDS_SHIFT % 256) else if c then record { registers = r; effect = effect.UnitReset } else record { registers = r; effect = effect.Fault 2 })
-      function true c = opened (value / 2 ^ DOORBELL_ADD_DWORDS_SHIFT % 256)
-      function false true = record { adapter = λ q. absurd (cc); unit = λ q. e; others_leave = λ n. refl }
-      function false false = fault 2
+      function true c = opened e (value / 2 ^ DOORBELL_ADD_DWORDS_SHIFT % 256)
+      function false true = record { adapter = λ q. absurd (cc); unit = λ q. e; others_leave = λ n. refl; faults = λ c q. absurd (cc) }
+      function false false = fault e 2
 
       by_more : (missing : ℕ) (message : List ℕ) (c : Bool)
           → ResetWrite r reg value (record { registers = record r { handshake = (if c then Collects (Rattle.std.proofs.Common.◌-◌ missing 1) (message ++ Rattle.byteorder.specs.Endian.little_bytes 4 value) else Asked (message ++ Rattle.byteorder.specs.Endian.little_bytes 4 value)) }; effect = (if c then effect.None else Rattle.mpi_doorbell.specs.Handshake.asks (message ++ Rattle.byteorder.specs.Endian.little_bytes 4 value)) })
-      by_more missing message true = record { adapter = λ q. absurd (cc); unit = λ q. absurd (cc); others_leave = λ n. refl }
-      by_more missing message false = record { adapter = λ q. absurd (cc); unit = λ q. absurd (cc); others_leave = λ n. refl }
+      by_more missing message true = record { adapter = λ q. absurd (cc); unit = λ q. absurd (cc); others_leave = λ n. refl; faults = λ c q. absurd (cc) }
+      by_more missing message false = record { adapter = λ q. absurd (cc); unit = λ q. absurd (cc); others_leave = λ n. refl; faults = λ c q. absurd (cc) }
 
       dword : (h : Handshake) → ResetWrite r reg value (record { registers = record r { handshake = dword_taken h value }; effect = asked_by h value })
-      dword Idle = record { adapter = λ q. absurd (cc); unit = λ q. absurd (cc); others_leave = λ n. refl }
-      dword (Asked message) = record { adapter = λ q. absurd (cc); unit = λ q. absurd (cc); others_leave = λ n. refl }
-      dword (Replies left) = record { adapter = λ q. absurd (cc); unit = λ q. absurd (cc); others_leave = λ n. refl }
+      dword Idle = record { adapter = λ q. absurd (cc); unit = λ q. absurd (cc); others_leave = λ n. refl; faults = λ c q. absurd (cc) }
+      dword (Asked message) = record { adapter = λ q. absurd (cc); unit = λ q. absurd (cc); others_leave = λ n. refl; faults = λ c q. absurd (cc) }
+      dword (Replies left) = record { adapter = λ q. absurd (cc); unit = λ q. absurd (cc); others_leave = λ n. refl; faults = λ c q. absurd (cc) }
       dword (Collects missing message) = by_more missing message (nat_lt 1 missing)
 
       by_idle : (c : Bool) → ResetWrite r reg value (if c then function_written r (value / 2 ^ DOORBELL_FUNCTION_SHIFT) (value / 2 ^ DOORBELL_ADD_DWORDS_SHIFT % 256) else record { registers = record r { handshake = dword_taken r.handshake value }; effect = asked_by r.handshake value })

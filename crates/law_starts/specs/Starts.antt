@@ -5,6 +5,7 @@ use Rattle.mpi_doorbell.specs.HostDoor.{HostDoor}
 use Rattle.mpi_doorbell.specs.declared.registers.TheConstants.{DIAG_HOLD_IOC_RESET, HOST_DIAGNOSTIC}
 use Rattle.mpi_doorbell.specs.declared.stage.Reading.TheVariants as reading
 use Rattle.mpi_doorbell.specs.declared.stage.Stage.TheVariants as door_stage
+use Rattle.mpi_doorbell.specs.declared.state.IocState.TheVariants.{Ready}
 use Rattle.mpt_trace.specs.declared.item.Down.{Down}
 use Rattle.mpt_trace.specs.declared.item.Down.TheVariants as down
 use Rattle.mpt_rules.specs.declared.said.Said.{Said}
@@ -44,6 +45,11 @@ pub record NothingIsWritten (w : World) : Type 0 where
   pub look : w.host.stage ≡ stage.Start → how_many is_register_write (down_line w) ≡ 0
   -- while the controller is RESET
   pub reset : in_reset w ≡ true → how_many is_register_write (down_line w) ≡ 0
+
+-- ---- a start begins with a controller that is READY
+
+abbrev pub StartFindsReady : World → Type 0
+StartFindsReady w = w.host.stage ≡ stage.Start → w.ioc.door.state ≡ Ready
 
 -- ---- a controller that isn't OPERATIONAL knows no host
 

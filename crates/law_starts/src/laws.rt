@@ -3,11 +3,11 @@ ghost use Rattle.mpt_rules.specs.World.Cases.{Case, happens};
 ghost use Rattle.mpt_rules.specs.Law.{NothingIsStrange};
 ghost use Rattle.mpt_rules.specs.World.Settings.{Setting, first_world};
 ghost use Rattle.mpt_rules.specs.World.State.{World};
-ghost use Rattle.law_facts.specs.DoorAhead.{AdapterBit, InitQueues, ResetSteps};
+ghost use Rattle.law_facts.specs.DoorAhead.{AdapterBit, DoorIsSound, InitQueues, ResetSteps};
 ghost use Rattle.law_facts.specs.Facts.{Facts};
 ghost use Rattle.law_facts.specs.Flights.{Sizes};
 ghost use Rattle.law_facts.specs.History.{History};
-ghost use Rattle.law_starts.specs.Starts.{StartsStand};
+ghost use Rattle.law_starts.specs.Starts.{StartFindsReady, StartsStand};
 
 /// Where all facts and those of a start hold of a world, and nothing on its way is strange to its host, those of a start hold of the world that any case
 /// leads to.
@@ -36,4 +36,16 @@ pub fn reset_steps_are_kept()
 /// queues.
 pub fn init_asks_for_all_queues()
     ensures { (w : World) → StartsStand w → Sizes w → InitQueues w }
+{}
+
+/// Where all facts and those of a start hold of a world, and nothing on its way is strange to its host, the door is sound in the world that any case leads
+/// to: no FAULT is ahead, no reset is held, and no link waits.
+pub fn doors_stay_sound()
+    ensures { (w : World) (h : History) (c : Case) → Facts w h → NothingIsStrange w → StartsStand w → DoorIsSound (happens w c) }
+{}
+
+/// Where all facts and those of a start hold of a world, and nothing on its way is strange to its host, a start finds the controller READY in the world
+/// that any case leads to.
+pub fn starts_find_ready()
+    ensures { (w : World) (h : History) (c : Case) → Facts w h → NothingIsStrange w → StartsStand w → StartFindsReady (happens w c) }
 {}
