@@ -121,6 +121,23 @@ shown_abort host n = granted (input.Abort n) (entry.Refuse (call.Abort n)) (host
 shown_target : (host : Host) (address : ℕ) → IsShown host (input.TargetReset address)
 shown_target host address = granted (input.TargetReset address) (entry.Refuse (call.TargetReset address)) (host_cause_of_target_reset host address) host _ _ _
 
+-- what is told of an input is an accept or a refusal
+pub input_entries : (host : Host) (i : Input) → EachEntry IsInputWord (input_move host i)
+input_entries host i = by_input i
+  where
+    by_given : (x : Input) → IsShown host x → EachEntry IsInputWord (input_move host x)
+    by_given x is = (subst (EachEntry IsInputWord) is (input_words host x)).1
+
+    by_input : (x : Input) → EachEntry IsInputWord (input_move host x)
+    by_input input.Start = by_given input.Start (started host host.mode)
+    by_input (input.Submit k address form) = by_given (input.Submit k address form) (shown_submit host k address form)
+    by_input (input.Abort k) = by_given (input.Abort k) (shown_abort host k)
+    by_input (input.TargetReset address) = by_given (input.TargetReset address) (shown_target host address)
+    by_input input.Reset = by_given input.Reset (reset host host.mode)
+    by_input input.UnitReset = by_given input.UnitReset (unit_reset host host.mode)
+    by_input (input.Plug address expander phy) = tt
+    by_input (input.Unplug address) = tt
+
 took : (host : Host) (queue : ℕ) (next : Up) (o : Option Why) → told_of (takes_unless host queue next o).answer (takes_unless host queue next o).told ≡ move_entries (taken_move (takes_unless host queue next o))
 took host queue next None = refl
 took host queue next (Some why) = refl
@@ -241,20 +258,7 @@ module _ (n : ℕ) where
 
   module _ (g : Tally) where
     input_due : (host : Host) (i : Input) → IsDue g (input_move host i)
-    input_due host i = by_shown i
-      where
-        by_given : (x : Input) → IsShown host x → IsDue g (input_move host x)
-        by_given x is = no_answers g (input_move host x) (subst (EachEntry IsInputWord) is (input_words host x)).1
-
-        by_shown : (x : Input) → IsDue g (input_move host x)
-        by_shown input.Start = by_given input.Start (started host host.mode)
-        by_shown (input.Submit k address form) = by_given (input.Submit k address form) (shown_submit host k address form)
-        by_shown (input.Abort k) = by_given (input.Abort k) (shown_abort host k)
-        by_shown (input.TargetReset address) = by_given (input.TargetReset address) (shown_target host address)
-        by_shown input.Reset = by_given input.Reset (reset host host.mode)
-        by_shown input.UnitReset = by_given input.UnitReset (unit_reset host host.mode)
-        by_shown (input.Plug address expander phy) = tt
-        by_shown (input.Unplug address) = tt
+    input_due host i = no_answers g (input_move host i) (input_entries host i)
 
     take_due : (host : Host) (queue : ℕ) (next : Up) → CountsMove g (taken_move (takes_up host queue next)) → IsDue g (move_entries (taken_move (takes_up host queue next)))
     take_due host queue next c = by_why (why_strange host queue next) c

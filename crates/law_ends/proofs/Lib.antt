@@ -1,2 +1,4 @@
+pub mod Commands
 pub mod HostAnswers
+pub mod HostResults
 mod Strange

@@ -1,2 +1,3 @@
 -- What the laws say.
 pub mod HostEnds
+pub mod HostResults

@@ -1,10 +1,17 @@
 //! The laws.
 ghost use Rattle.law_ends.specs.HostEnds.{HostsAnswerOnce, StrangeChangesNothing};
+ghost use Rattle.law_ends.specs.HostResults.{ResultsAreOfReplies};
 
 /// Over any list of moves of a new host: no number is accepted twice or answered twice, and each that is answered was
 /// accepted before.
 pub fn hosts_answer_once()
     ensures { HostsAnswerOnce }
+{}
+
+/// Over any list of moves of a new host: an answer Done has the status, data and sense of a reply of its command's
+/// identifier, which the move of the answer brings, after the command was accepted.
+pub fn results_are_of_replies()
+    ensures { ResultsAreOfReplies }
 {}
 
 /// A move that brings a strange item changes nothing: the talk without what it says is that of the list without it.

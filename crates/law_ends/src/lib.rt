@@ -4,4 +4,4 @@
 
 mod laws;
 
-pub use laws::{hosts_answer_once, strange_changes_nothing};
+pub use laws::{hosts_answer_once, results_are_of_replies, strange_changes_nothing};

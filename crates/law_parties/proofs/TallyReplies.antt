@@ -134,7 +134,7 @@ module _ (n : ℕ) where
         by_phase true = asked_internal n g.accepts g.answers (asks.frees_high phased s) (request.Remove handle) (freed_high n g.accepts g.answers phased s x h)
         by_phase false = freed_high n g.accepts g.answers phased s x h
 
-    ready_by : (handle s : ℕ) (p : Phase) (page : Option ℕ) → EachEntry IsBy (removal.ready_told handle s p page)
+    pub ready_by : (handle s : ℕ) (p : Phase) (page : Option ℕ) → EachEntry IsBy (removal.ready_told handle s p page)
     ready_by handle s p page = grind arith
 
     answer_counts : (host : Host) (s : ℕ) (r : Request) (v : Heard) → slot_of host.pool s ≡ Open r → HasTally n g host → CountsTo (replies.hears_answer host s r v)
@@ -181,7 +181,7 @@ module _ (n : ℕ) where
     change_by : (host : Host) (c : Change) → EachEntry IsBy (removal.hears_change host c).entries
     change_by host c = let l = loses_by host c.handle (phase_at host.phases c.handle) in grind (arith, l)
 
-    changes_by : (host : Host) (cs : List Change) → EachEntry IsBy (removal.hears_changes host cs).entries
+    pub changes_by : (host : Host) (cs : List Change) → EachEntry IsBy (removal.hears_changes host cs).entries
     unfolding removal.hears_changes
     changes_by host [] = tt
     changes_by host (c ∷ cs) = by_append _ _ (change_by host c) (changes_by (removal.hears_change host c).part cs)
