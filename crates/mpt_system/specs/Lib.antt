@@ -5,3 +5,4 @@ pub mod Reached
 pub mod Making
 pub mod Steps
 pub mod Asking
+pub mod Turns

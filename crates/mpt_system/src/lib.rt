@@ -13,6 +13,7 @@ mod parties;
 mod puts;
 mod queries;
 mod refusals;
+mod rounds;
 mod stepping;
 mod system;
 mod takes;
