@@ -5,3 +5,4 @@ pub mod Resets
 pub mod DoorTurns
 pub mod Inputs
 pub mod Changes
+pub mod Played

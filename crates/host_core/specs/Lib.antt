@@ -5,3 +5,6 @@ pub mod Posts
 pub mod Taking
 pub mod Places
 pub mod Resets
+pub mod Things
+pub mod Asking
+pub mod Plays

@@ -1,6 +1,9 @@
 //! Why a call of the host is refused.
+ghost use Rattle.std.specs.Prelude.{◌≡◌, None};
+ghost use Rattle.host_core.specs.Faults.{refusal_of};
+
 use mpt_rules::{OutOfMemory, Why};
-use mpt_trace::Up;
+use mpt_trace::{Refusal, Up};
 
 /// Why a call of the host is refused.
 #[derive(Clone, Copy, Debug, PartialEq, Eq)]
@@ -44,6 +47,29 @@ pub enum TakeFault {
         /// The first cause that holds.
         why: Why,
     },
+}
+
+impl HostFault {
+    /// The refusal that it stands for. None exactly for OutOfMemory.
+    pub fn refusal(self) -> Option<Refusal>
+        ensures refusal { result ≡ refusal_of self }
+        ensures memory { result ≡ None → self ≡ HostFault.OutOfMemory }
+    {
+        let refusal = match self {
+            HostFault::NumberUsed => Refusal::NumberUsed,
+            HostFault::NotOperational => Refusal::NotOperational,
+            HostFault::NoDevice => Refusal::NoDevice,
+            HostFault::BadLength => Refusal::BadLength,
+            HostFault::NoIdentifier => Refusal::NoIdentifier,
+            HostFault::NotOpen => Refusal::NotOpen,
+            HostFault::AbortOpen => Refusal::AbortOpen,
+            HostFault::AlreadyStarted => Refusal::AlreadyStarted,
+            HostFault::NotStarted => Refusal::NotStarted,
+            HostFault::AlreadyResetting => Refusal::AlreadyResetting,
+            HostFault::OutOfMemory => return None,
+        };
+        Some(refusal)
+    }
 }
 
 impl From<OutOfMemory> for HostFault {

@@ -2,6 +2,7 @@
 ghost use Rattle.std.specs.Prelude.{◌≡◌, ◌≤◌, ◌<◌, ◌+◌, ◌++◌, ◌∷◌, [], IfOk, OnErr, OnOk, false, true};
 ghost use Rattle.mpt_rules.specs.Host.Parts.{new_host};
 
+mod asking;
 mod doorbell;
 mod handles;
 mod inputs;

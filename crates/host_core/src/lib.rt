@@ -7,13 +7,21 @@
 
 mod faults;
 mod host;
+mod moves;
 mod places;
 #[cfg(test)]
+mod play_tests;
+mod playing;
+#[cfg(test)]
 mod take_tests;
+mod talk;
 #[cfg(test)]
 mod tests;
 
 pub use faults::{HostFault, TakeFault};
 pub use host::Host;
+pub use moves::{HostMove, HostSaid};
 pub use mpt_rules::{HostFrame, OutOfMemory, Why};
 pub use places::HostSmid;
+pub use playing::play;
+pub use talk::HostTalk;

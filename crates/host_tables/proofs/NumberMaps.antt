@@ -1,5 +1,5 @@
 -- Maps from numbers, one entry of which stands beside the tree.
-use Rattle.std.proofs.Common.{◌≡◌, ◌≢◌, ℕ, Bool, true, false, cond, List, [], ◌∷◌, Option, Some, None, refl, sym, ap, ◌∙◌, inl, inr, eqb, map as each, ◌++◌, length, arith}
+use Rattle.std.proofs.Common.{◌≡◌, ℕ, Bool, true, false, cond, List, [], ◌∷◌, Option, Some, None, refl, sym, ap, ◌∙◌, inl, inr, eqb, map as each, ◌+◌, length, is_some, arith}
 use Rattle.std.specs.Ordering.{eq_by_cmp, is_eq, nat_cmp}
 use Rattle.std.specs.Cmp.{eq_by_cmp_equiv, nat_cmp_total, unsigned_tied}
 use Rattle.std.specs.Option.{option_or}
@@ -9,8 +9,9 @@ use Rattle.std.specs.Option.{is_none}
 use Rattle.std.specs.BTreeMap as tree
 use Rattle.std.specs.BTreeMap.{BTreeMap}
 use Rattle.std.specs.FinMap as map
-use Rattle.std.specs.FinMap.{entries, entries-insert, find, len-empty, len-entries, put, get-from_entries, get-insert, get-remove, nat_cmp-IsAntisymmetric, same_map}
+use Rattle.std.specs.FinMap.{entries, entries-insert, find, len-empty, len-entries, len-insert, put, get-from_entries, get-insert, get-remove, nat_cmp-IsAntisymmetric, same_map}
 use Rattle.std.proofs.lemmas.Bool.{cases_Bool}
+use Rattle.std.proofs.lemmas.List.{length-map}
 use Rattle.host_tables.specs.Numbered.{newest_at, newest_without, with_newest}
 
 pub turned : (a b : ℕ) → eq_by_cmp nat_cmp a b ≡ eq_by_cmp nat_cmp b a
@@ -123,3 +124,32 @@ module _ {V : Type 0} where
   pub no_keys : (es : List (ℕ × V)) → length es ≡ 0 → keys_of es ≡ []
   no_keys [] none = refl
   no_keys (e ∷ es) none = absurd (omega arith)
+
+  -- how many entries a tree and the newest one are
+  abbrev pub length_with : Option (ℕ × V) → BTreeMap ℕ V → ℕ
+  length_with None t = length t.entries
+  length_with (Some e) t = cond (is_some (tree.get nat_cmp t e.0)) (length t.entries) (length t.entries + 1)
+
+  -- a map has as many keys as entries
+  length-keys : (m : map.FinMap nat_cmp V) → length (map.keys m) ≡ map.len m
+  length-keys m = length-map (entries m) (λ e. e.0) ∙ sym (len-entries m)
+
+  -- a tree's map is as long as the tree
+  len-tree : (es : List (ℕ × V)) → IsStrictlySortedBy nat_cmp (keys_of es) → map.len (map.from_entries {R = nat_cmp} es) ≡ length es
+  len-tree es sorted = len-entries (map.from_entries {R = nat_cmp} es) ∙ ap length (entries-tree es sorted)
+
+  -- the newest entry makes it longer where its number is new
+  len-newest : (t : BTreeMap ℕ V) (n : ℕ) (v : V) → IsStrictlySortedBy nat_cmp (keys_of t.entries) → map.len (map.insert (map.from_entries {R = nat_cmp} t.entries) n v) ≡ cond (is_some (tree.get nat_cmp t n)) (length t.entries) (length t.entries + 1)
+  len-newest t n v sorted =
+      len-insert nat_cmp_total (map.from_entries t.entries) n v
+      ∙ ap (λ (o : Option V). cond (is_some o) (map.len (map.from_entries {R = nat_cmp} t.entries)) (map.len (map.from_entries {R = nat_cmp} t.entries) + 1)) (sym (get-settled t n))
+      ∙ ap (λ (k : ℕ). cond (is_some (tree.get nat_cmp t n)) k (k + 1)) (len-tree t.entries sorted)
+
+  -- how many numbers there are, with the entry that stands beside the tree
+  pub len-with_newest : (o : Option (ℕ × V)) (t : BTreeMap ℕ V) → IsStrictlySortedBy nat_cmp (keys_of t.entries) → map.len (with_newest o (map.from_entries {R = nat_cmp} t.entries)) ≡ length_with o t
+  len-with_newest None t sorted = len-tree t.entries sorted
+  len-with_newest (Some e) t sorted = len-newest t e.0 e.1 sorted
+
+  -- and how many keys
+  pub keys-with_newest : (o : Option (ℕ × V)) (t : BTreeMap ℕ V) → IsStrictlySortedBy nat_cmp (keys_of t.entries) → length (map.keys (with_newest o (map.from_entries {R = nat_cmp} t.entries))) ≡ length_with o t
+  keys-with_newest o t sorted = length-keys (with_newest o (map.from_entries t.entries)) ∙ len-with_newest o t sorted

@@ -1,5 +1,5 @@
 -- Phases of handles that the table doesn't have.
-use Rattle.std.proofs.Common.{◌≡◌, ◌∙◌, ℕ, ◌-◌, ◌<◌, ◌≤◌, List, length, get_or, set, refl, sym, ap, arith}
+use Rattle.std.proofs.Common.{◌≡◌, ℕ, ◌-◌, ◌≤◌, List, length, get_or, ap, arith}
 use Rattle.std.proofs.lemmas.List.{get_or_past, set-get_or, set_past}
 use Rattle.removal.specs.declared.phase.Phase.{Phase}
 use Rattle.removal.specs.declared.phase.Phase.TheVariants.{Absent}

@@ -1,13 +1,12 @@
 -- Identifiers stay sorted by their class.
-use Rattle.std.proofs.Common.{◌≡◌, ◌≢◌, ◌∙◌, ℕ, zero, suc, ◌-◌, ◌<◌, ◌≤◌, Bool, true, false, not, [], ◌∷◌, List, length, get_or, set, Option, Some, None, Result, Ok, Err, IfOk, OnErr, IsErr, ◌↔◌, ◌+◌, option_map, replicate, count_by, refl, sym, ap, inl, inr, arith, get_or-set_same, get_or-set_other}
+use Rattle.std.proofs.Common.{◌≡◌, ◌∙◌, ℕ, zero, suc, ◌-◌, ◌<◌, ◌≤◌, Bool, true, false, not, [], ◌∷◌, List, length, get_or, set, Some, None, Result, Ok, Err, IfOk, OnErr, IsErr, ◌↔◌, ◌+◌, option_map, replicate, refl, sym, ap, inl, inr, arith, get_or-set_same, get_or-set_other}
 use Rattle.std.proofs.lemmas.Bool.{cases_eq, cases_lt}
 use Rattle.std.proofs.lemmas.List.{get_or-replicate, get_or_past, length-replicate, length-set}
-use Rattle.std.specs.List.{list_any, position}
+use Rattle.std.specs.List.{list_any}
 use Rattle.std.proofs.lemmas.List.Folds.{list_any_at}
 use Rattle.std.specs.Result.{result_ok}
 use Rattle.smid_pool.specs.declared.class.Class.{Class}
-use Rattle.smid_pool.specs.declared.class.Class.TheVariants.{ScsiIo, High, Internal}
-use Rattle.smid_pool.specs.Class.{before, size_of, IsIn}
+use Rattle.smid_pool.specs.Class.{before, IsIn}
 use Rattle.smid_pool.specs.Pool.{Slot, Free, Open, Parked, free_count, is_free, is_open, is_parked, least_free, record_of, slot_of, slots_in, with_slot}
 use Rattle.smid_pool.proofs.Lists.{position_cases}
 use Rattle.mpt_rules.specs.declared.request.Request.{Request}

@@ -1,5 +1,5 @@
 -- The host's reply post rings, and which marks of a reset were taken.
-use Rattle.std.specs.Prelude.{◌≡◌, ℕ, ◌≤◌, Bool, List, [], length, map}
+use Rattle.std.specs.Prelude.{◌≡◌, ℕ, ◌≤◌, Bool, List, [], length}
 use Rattle.std.specs.List.{All}
 use Rattle.mpi_rings.specs.PostRing.{PostState}
 

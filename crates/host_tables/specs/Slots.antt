@@ -1,5 +1,5 @@
 -- What the host's identifiers keep.
-use Rattle.std.specs.Prelude.{◌≡◌, ℕ, ◌≤◌, Bool, true, false, List, IsTrue}
+use Rattle.std.specs.Prelude.{◌≡◌, ℕ, ◌≤◌, Bool, true, false, List, Option, Some}
 use Rattle.smid_pool.specs.Pool.{Slot, Open, slot_of}
 use Rattle.mpt_rules.specs.declared.request.Request.{Request}
 use Rattle.mpt_rules.specs.declared.request.Request.TheVariants as request
@@ -15,6 +15,11 @@ is_internal (request.Remove handle) = true
 is_internal (request.Ack event context) = true
 is_internal request.Notification = true
 is_internal request.PortEnable = true
+
+-- it is a target reset that was asked from outside
+abbrev pub is_target_reset_request : Option Request → Bool
+is_target_reset_request (Some (request.TargetReset address)) = true
+is_target_reset_request _ = false
 
 -- the identifier is of the internal class
 abbrev pub IsInternalSmid : ℕ → Type 0

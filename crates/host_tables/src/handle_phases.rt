@@ -1,6 +1,7 @@
 //! How far the host is with each device handle.
-ghost use Rattle.std.specs.Prelude.{◌≡◌, ◌≤◌, ◌-◌, IfSome, IsTrue, MatchOption, None};
+ghost use Rattle.std.specs.Prelude.{◌≡◌, ◌≤◌, ◌-◌, IfSome, IsTrue, MatchOption, None, count_by};
 ghost use Rattle.mpt_rules.specs.Host.Removal.{is_absent, is_reset_under};
+ghost use Rattle.mpt_rules.specs.World.Weight.{is_under_way};
 ghost use Rattle.removal.specs.Handles.{IsHandle, all_absent, phase_at, ready_handle, with_phase};
 ghost use Rattle.removal.specs.Phases.{after_added, after_gone, after_grant, after_page, after_removed, after_task_done, lost_address};
 
@@ -135,6 +136,20 @@ impl HandlePhases {
         self.handles.of(address)
     }
 
+    /// How many handles are neither absent nor ready.
+    pub fn under_way_count(&self) -> usize
+        ensures value { result ≡ count_by is_under_way self.now }
+        ensures most { result ≤ 64 }
+    {
+        let mut count = 0;
+        for place in 0..64 {
+            if is_under_way(self.handles.phase(FIRST_HANDLE + place)) {
+                count += 1;
+            }
+        }
+        count
+    }
+
     /// All become absent.
     pub fn clear(&mut self)
         ensures { self.new ≡ all_absent }
@@ -165,4 +180,11 @@ fn grant_if_waiting(handles: &mut Handles, handle: Handle, smid: Smid)
         Phase::WaitRead | Phase::WaitHigh | Phase::WaitInternal => handles.grant(handle, smid),
         _ => {}
     }
+}
+
+// Whether a phase is neither absent nor ready.
+fn is_under_way(phase: Phase) -> bool
+    ensures { result ≡ is_under_way phase }
+{
+    !matches!(phase, Phase::Absent | Phase::Ready(_))
 }

@@ -1,9 +1,10 @@
 //! The host's identifiers.
-ghost use Rattle.std.specs.Prelude.{◌≡◌, ◌≤◌, IfOk, IfSome, IsTrue, None, is_some, length, true, false};
+ghost use Rattle.std.specs.Prelude.{◌≡◌, ◌≤◌, IfOk, IfSome, IsTrue, None, count_by, is_some, length, true, false};
 ghost use Rattle.std.specs.List.{list_any};
 ghost use Rattle.smid_pool.specs.declared.class.Class.TheVariants.{High, Internal, ScsiIo};
 ghost use Rattle.smid_pool.specs.Pool.{Free, Open, Parked, all_free, is_open, is_parked, least_free, record_of, slot_of, with_slot};
-ghost use Rattle.host_tables.specs.Slots.{IsInternalSmid, is_internal};
+ghost use Rattle.mpt_rules.specs.World.Weight.{is_target_reset_slot};
+ghost use Rattle.host_tables.specs.Slots.{IsInternalSmid, is_internal, is_target_reset_request};
 
 use mpt_rules::{OutOfMemory, Request};
 use mpt_trace::Smid;
@@ -154,10 +155,31 @@ impl Identifiers {
         false
     }
 
+    /// How many are open for a target reset that was asked from outside.
+    pub fn target_reset_count(&self) -> usize
+        ensures value { result ≡ count_by is_target_reset_slot self.now }
+        ensures most { result ≤ 280 }
+    {
+        let mut count = 0;
+        for place in 0..280 {
+            if is_target_reset(self.pool.get(place + 1).copied()) {
+                count += 1;
+            }
+        }
+        count
+    }
+
     /// Frees all.
     pub fn clear(&mut self)
         ensures { self.new ≡ all_free }
     {
         self.pool.clear();
     }
+}
+
+// Whether a request is a target reset that was asked from outside.
+fn is_target_reset(request: Option<Request>) -> bool
+    ensures { result ≡ is_target_reset_request request }
+{
+    matches!(request, Some(Request::TargetReset { .. }))
 }

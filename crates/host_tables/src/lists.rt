@@ -1,14 +1,16 @@
 //! The lists of a host that grow.
-ghost use Rattle.std.specs.Prelude.{◌≡◌, ◌≤◌, ◌<◌, ◌-◌, ◌++◌, ◌∷◌, ◌||◌, [], OnOk, OnErr, drop, length, nat_lt, not, option_copied, option_to_list, slice_get, true, IfSome};
+ghost use Rattle.std.specs.Prelude.{◌≡◌, ◌≤◌, ◌<◌, ◌-◌, ◌+◌, ◌^◌, ◌++◌, ◌∷◌, ◌||◌, [], OnOk, OnErr, drop, length, nat_lt, not, option_copied, option_to_list, slice_get, true, IfSome};
 ghost use Rattle.std.specs.List.{filter, list_any};
 ghost use Rattle.mpt_messages.specs.HostFrames.{IsAsk};
 ghost use Rattle.mpt_rules.specs.Host.Posts.{frame_asked};
 ghost use Rattle.mpt_rules.specs.Host.Removal.{is_page_of, without_page};
 ghost use Rattle.mpt_rules.specs.Host.Resets.{is_no_post};
-ghost use Rattle.mpt_rules.specs.World.Places.{is_posted_as};
+ghost use Rattle.mpt_rules.specs.World.Places.{is_posted_as, is_return_of};
+ghost use Rattle.mpt_rules.specs.World.Weight.{down_items, is_read};
 ghost use Rattle.host_tables.specs.Lists.{Lists};
 ghost use Rattle.host_tables.specs.Slots.{is_internal};
 
+use crate::reply_frames::address_of;
 use mpt_messages::{HostAsk, host_frame};
 use mpt_rules::{OutOfMemory, Request};
 use mpt_trace::{Down, Entry, Handle, Smid};
@@ -16,6 +18,7 @@ use scsi_disk::Bytes;
 use std::alloc::Global;
 use std::collections::VecDeque;
 use std::marker::Model;
+use std::mem;
 
 /// What a host puts on the lane down and what it tells, and what waits for an identifier: handles
 /// whose target reset it is, and requests of the internal class. Where `make_room` was called before,
@@ -154,6 +157,15 @@ impl HostLists {
         self.told.pop_front()
     }
 
+    /// Takes all told entries, without memory.
+    pub fn take_told(&mut self, alloc: Global) -> VecDeque<Entry>
+        ensures entries { result.items ≡ self.old.told }
+        ensures rest { self.new ≡ record self.old { told = []; room = 0 } }
+    {
+        self.room = 0;
+        mem::replace(&mut self.told, VecDeque::new(alloc))
+    }
+
     /// Takes the handle whose target reset waits first. None exactly where there is none.
     pub fn pop_high(&mut self) -> Option<Handle>
         ensures first { self.old.high ≡ option_to_list result ++ self.new.high }
@@ -195,6 +207,28 @@ impl HostLists {
         self.down.iter().any(|item| is_post_of(item, smid))
     }
 
+    /// Whether a return of this reply frame is to be put.
+    pub fn has_return(&self, frame: u8) -> bool
+        ensures { result ≡ list_any (is_return_of frame) self.now.down }
+    {
+        self.down.iter().any(|item| is_return_of(item, frame))
+    }
+
+    /// How many items are to be put, reads not counted.
+    pub fn down_count(&self) -> usize
+        ensures { result ≡ down_items self.now.down }
+    {
+        self.down.iter().filter(|item| !is_read(item)).count()
+    }
+
+    /// How many posts wait for an identifier.
+    pub fn waiting_count(&self) -> u128
+        ensures value { result ≡ length self.now.high + length self.now.internal }
+        ensures most { result ≤ 2 ^ 65 }
+    {
+        self.high.len() as u128 + self.internal.len() as u128
+    }
+
     /// Whether something waits for an identifier.
     pub fn has_waiting(&self) -> bool
         ensures { result ≡ (nat_lt 0 (length self.now.high) || nat_lt 0 (length self.now.internal)) }
@@ -211,6 +245,23 @@ fn is_post_of(item: &Down, smid: Smid) -> bool
         Down::Post { descriptor, .. } => *descriptor / 0x1_0000 % 0x1_0000 == u64::from(smid),
         _ => false,
     }
+}
+
+// Whether an item returns this reply frame.
+fn is_return_of(item: &Down, frame: u8) -> bool
+    ensures { result ≡ is_return_of frame item.now }
+{
+    match item {
+        Down::Return { address, .. } => *address == address_of(frame),
+        _ => false,
+    }
+}
+
+// Whether an item reads a register.
+fn is_read(item: &Down) -> bool
+    ensures { result ≡ is_read item.now }
+{
+    matches!(item, Down::Read { .. })
 }
 
 // Whether an item is a post.

@@ -101,12 +101,22 @@ impl<V: Drop> NumberMap<V> {
         }
     }
 
-    /// How many numbers there are at most.
+    /// How many numbers there are.
     pub fn len(&self) -> usize
-        ensures value { self.now.has_room ≡ true → result ≡ length (map.keys self.now.map) }
-        ensures small { result < 2 ^ 63 }
+        ensures value { result ≡ map.len self.now.map }
+        ensures keys { result ≡ length (map.keys self.now.map) }
     {
-        self.settled.len()
+        let settled = self.settled.len();
+        match &self.newest {
+            Some((n, _)) => {
+                if self.settled.contains_key(n) {
+                    settled
+                } else {
+                    settled + 1
+                }
+            }
+            None => settled,
+        }
     }
 
     /// Takes all numbers out. There is room for one.

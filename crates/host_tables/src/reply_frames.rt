@@ -2,6 +2,7 @@
 ghost use Rattle.std.specs.Prelude.{◌≡◌, ◌<◌, ◌+◌, ◌%◌, replicate, slice_index_or, slice_set};
 ghost use Rattle.mpt_wire.specs.Messages.Fields.{reply_frame_address};
 ghost use Rattle.mpt_rules.specs.Host.Returns.{frame_of as frame_at, is_away, is_frame_address as is_one};
+ghost use Rattle.mpt_rules.specs.World.PlaceCounts.{is_held_frame};
 
 use mpt_rules::HostFrame;
 use std::marker::Model;
@@ -57,6 +58,16 @@ impl ReplyFrames {
         }
     }
 
+    /// Whether the host has the frame. Of what is no frame it has none.
+    pub fn is_held(&self, frame: u32) -> bool
+        ensures { result ≡ is_held_frame (slice_index_or self.now.frames frame HostFrame.Away) }
+    {
+        match self.frames.get(frame as usize) {
+            Some(place) => is_held(*place),
+            None => false,
+        }
+    }
+
     /// Whether the controller has the frame.
     pub fn is_away(&self, frame: u32) -> bool
         ensures { result ≡ is_away (slice_index_or self.now.frames frame HostFrame.Held) }
@@ -92,6 +103,20 @@ impl ReplyFrames {
     {
         self.frames = [HostFrame::Held; REPLY_FRAMES];
     }
+}
+
+// Whether the host has a frame that is there.
+fn is_held(place: HostFrame) -> bool
+    ensures { result ≡ is_held_frame place }
+{
+    matches!(place, HostFrame::Held)
+}
+
+// The address that a frame of any number would have.
+pub(crate) fn address_of(frame: u8) -> u32
+    ensures { result ≡ reply_frame_address frame }
+{
+    FIRST_ADDRESS + FRAME_BYTES * u32::from(frame)
 }
 
 /// The address of a frame, from 0 to 63.

@@ -1,12 +1,9 @@
 -- How a handshake is answered, by its function and its first refusal.
-use Rattle.std.proofs.Common.{◌≡◌, ◌≢◌, ◌∙◌, ℕ, List, Option, Some, None, get_or, option_map, refl, sym, ap}
+use Rattle.std.proofs.Common.{◌≡◌, ◌∙◌, ℕ, List, Option, Some, None, get_or, option_map, ap}
 use Rattle.mpt_messages.specs.declared.fault.MsgFault.{MsgFault}
 use Rattle.mpt_messages.specs.Function.{function_of}
-use Rattle.mpt_messages.specs.declared.function.Function.{Function}
-use Rattle.mpt_messages.specs.declared.function.Function.TheVariants as function
 use Rattle.mpt_messages.specs.declared.ioc_reply.IocReply.{IocReply}
 use Rattle.mpt_messages.specs.declared.ioc_reply.IocReply.TheVariants as reply
-use Rattle.mpt_rules.specs.declared.status.TheConstants.{IOC_STATUS_INVALID_FUNCTION}
 use Rattle.mpt_rules.specs.Ioc.Parts.{Ioc}
 use Rattle.mpt_rules.specs.Ioc.Registers.{answers_handshake, handshakes_if, serves_handshake}
 use Rattle.mpt_rules.specs.Ioc.Replies.{refusal_status}

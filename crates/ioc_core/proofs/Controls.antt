@@ -1,5 +1,5 @@
 -- SAS IO unit control doesn't look at the queues of posts, and leaves them.
-use Rattle.std.proofs.Common.{◌≡◌, ℕ, ◌==◌, Bool, true, false, cond, if◌then◌else◌, List, [], ◌∷◌, ◌++◌, drop, Option, Some, None, refl, sym, ap, ◌∙◌}
+use Rattle.std.proofs.Common.{◌≡◌, ℕ, ◌==◌, Bool, true, false, if◌then◌else◌, List, [], ◌∷◌, drop, Option, Some, None, refl, ap, ◌∙◌}
 use Rattle.mpt_wire.specs.Messages.Fields.{controlled_handle_in, operation_in, remove_device}
 use Rattle.mpt_rules.specs.declared.binding.Binding.{Binding}
 use Rattle.mpt_rules.specs.declared.binding.Binding.TheVariants as binding

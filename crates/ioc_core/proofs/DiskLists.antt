@@ -1,7 +1,7 @@
 -- What stays true of the disks as one comes, waits, is bound or goes.
-use Rattle.std.proofs.Common.{◌≡◌, ◌≢◌, ℕ, ◌+◌, ◌-◌, ◌<◌, ◌≤◌, Bool, true, false, not, ◌&&◌, ◌||◌, cond, ltb, nat_le, nat_lt, List, [], ◌∷◌, ◌++◌, drop, filter, length, get_or, set, replicate, count_by, Option, Some, None, refl, sym, ap, ◌∙◌, inl, inr, subst, arith}
+use Rattle.std.proofs.Common.{◌≡◌, ◌≢◌, ℕ, ◌+◌, ◌-◌, ◌≤◌, Bool, true, false, not, ◌||◌, cond, ltb, nat_le, List, [], ◌∷◌, ◌++◌, drop, filter, length, get_or, set, replicate, count_by, Option, Some, None, refl, sym, ap, ◌∙◌, inl, inr, subst, arith}
 use Rattle.std.specs.List.{list_all, list_any, slice_get}
-use Rattle.std.proofs.lemmas.Bool.{cases_Bool, cases_eq, cases_lt}
+use Rattle.std.proofs.lemmas.Bool.{cases_eq, cases_lt}
 use Rattle.std.proofs.lemmas.Bool.Decides.{nat_tests}
 use Rattle.std.proofs.lemmas.List.{get_or-replicate, get_or_past, get_or-set_same, get_or-set_other, length-replicate, length-set}
 use Rattle.std.proofs.lemmas.List.Folds.{list_all-append, list_any-append}
@@ -14,7 +14,7 @@ use Rattle.ioc_tables.specs.Bindings.{after_bind, after_leaving, binding_at, bin
 use Rattle.ioc_tables.specs.CommandCounts.{one_if}
 use Rattle.ioc_tables.proofs.Counts.{has_counted}
 use Rattle.ioc_tables.proofs.Handled.{absent_after_bind, absent_after_leaving, stays_absent}
-use Rattle.ioc_tables.proofs.Numbers.{both_hold, eqb_apart, eqb_itself, eqb_same}
+use Rattle.ioc_tables.proofs.Numbers.{both_hold, eqb_itself, eqb_same}
 use Rattle.ioc_core.specs.Disks.{AreDisks, is_placed, waits_placed}
 
 -- ---- lists

@@ -1,5 +1,5 @@
 -- A change's event in its two parts is the change's event.
-use Rattle.std.proofs.Common.{◌≡◌, ℕ, ◌+◌, ◌%◌, ◌^◌, Bool, true, false, not, ◌&&◌, cond, if◌then◌else◌, List, [], ◌∷◌, ◌++◌, drop, slice_index, Option, Some, None, refl, sym, ap, ◌∙◌}
+use Rattle.std.proofs.Common.{◌≡◌, ℕ, ◌+◌, ◌%◌, ◌^◌, Bool, true, false, not, ◌&&◌, cond, if◌then◌else◌, List, [], ◌∷◌, ◌++◌, drop, slice_index, Some, None, refl, sym, ap, ◌∙◌}
 use Rattle.std.specs.FinSet as set
 use Rattle.std.specs.List.{slice_get}
 use Rattle.std.specs.Ordering.{nat_cmp}
@@ -15,7 +15,6 @@ use Rattle.mpt_rules.specs.Ioc.Parts.{Ioc}
 use Rattle.mpt_rules.specs.Ioc.Replies.{ioc_answers}
 use Rattle.mpt_rules.specs.Ioc.Requests.{after_unbind}
 use Rattle.mpt_rules.specs.Ioc.Tables.{silently, with_binding}
-use Rattle.mpt_rules.specs.Outcome.{Happening}
 use Rattle.ioc_tables.specs.Bindings.{after_bind, after_leaving, binding_for, least_free, with_binding_at}
 use Rattle.ioc_core.specs.Removing.{noted, removes_for, with_event}
 

@@ -1,10 +1,9 @@
 -- What a step does with the front of its queue, by what is read in it.
-use Rattle.std.proofs.Common.{◌≡◌, ℕ, Bool, true, false, List, [], ◌∷◌, ◌++◌, append-nil, drop, Option, Some, None, refl, sym, ap, ◌∙◌, subst}
+use Rattle.std.proofs.Common.{◌≡◌, ℕ, List, [], ◌++◌, append-nil, Some, None, sym, ap, ◌∙◌, subst}
 use Rattle.std.specs.List.{slice_get}
 use Rattle.mpi_rings.specs.declared.request_descriptor.PostKind.{PostKind}
 use Rattle.mpi_rings.specs.declared.request_descriptor.PostKind.TheVariants as post
 use Rattle.mpt_messages.specs.Refusal.{request_refusal}
-use Rattle.mpt_messages.specs.declared.fault.MsgFault.{MsgFault}
 use Rattle.mpt_wire.specs.Messages.Fields.{kind_in, smid_in}
 use Rattle.mpt_rules.specs.declared.post.Post.{Post}
 use Rattle.mpt_rules.specs.Ioc.Commands.{works_scsi}
@@ -15,8 +14,7 @@ use Rattle.mpt_rules.specs.Ioc.Steps.{after_step, idle, refuses, way_of, works_d
 use Rattle.mpt_rules.specs.Ioc.Tables.{silently}
 use Rattle.mpt_rules.specs.Ioc.Tasks.{works_task}
 use Rattle.mpt_rules.specs.Outcome.{Happening}
-use Rattle.ioc_requests.specs.Asked.{IsAsked, IsRead, kind_asking}
-use Rattle.ioc_requests.specs.declared.asked.Asked.{Asked}
+use Rattle.ioc_requests.specs.Asked.{IsRead}
 use Rattle.ioc_requests.specs.declared.asked.Asked.TheVariants as asked
 use Rattle.ioc_requests.specs.declared.asked.PostRead.{PostRead}
 use Rattle.ioc_requests.specs.declared.asked.PostRead.TheVariants as read

@@ -1,5 +1,5 @@
 -- What is done with a request, by the numbers of its message.
-use Rattle.std.proofs.Common.{◌≡◌, ◌≢◌, ℕ, ◌==◌, Bool, true, false, not, ◌&&◌, ◌||◌, bit_and, if◌then◌else◌, List, [], ◌∷◌, take, Option, Some, None, option_map, refl, sym, ap, ◌∙◌, arith}
+use Rattle.std.proofs.Common.{◌≡◌, ◌≢◌, ℕ, ◌==◌, Bool, true, false, not, ◌&&◌, ◌||◌, bit_and, if◌then◌else◌, List, [], take, Option, Some, None, option_map, refl, sym, ap, ◌∙◌, arith}
 use Rattle.std.specs.FinSet as set
 use Rattle.std.proofs.lemmas.Bool.Decides.{nat_tests}
 use Rattle.config_pages.specs.ConfigAsk.{ConfigAskStands}
@@ -15,7 +15,7 @@ use Rattle.scsi_msgs.specs.TaskAsk.{TaskAskStands}
 use Rattle.scsi_msgs.specs.declared.scsi_io.ScsiIo.{ScsiIo}
 use Rattle.scsi_msgs.specs.declared.task_ask.TaskAsk.{TaskAsk}
 use Rattle.mpt_messages.specs.declared.ioc_reply.IocReply.TheVariants as reply
-use Rattle.mpt_wire.specs.Messages.Fields.{controlled_handle_in, dev_handle_in, handle_in, operation_in, remove_device, smid_in, task_mid_in, task_type_in}
+use Rattle.mpt_wire.specs.Messages.Fields.{controlled_handle_in, dev_handle_in, handle_in, operation_in, remove_device, smid_in}
 use Rattle.mpt_rules.specs.declared.binding.Binding.{Binding}
 use Rattle.mpt_rules.specs.declared.binding.Binding.TheVariants as binding
 use Rattle.mpt_rules.specs.declared.post.Post.{Post}
@@ -28,7 +28,7 @@ use Rattle.mpt_rules.specs.Ioc.Requests.{ioc_ends_removal, removes, removes_if, 
 use Rattle.mpt_rules.specs.Ioc.Tables.{binding_of, has_commands, next_present, silently}
 use Rattle.mpt_rules.specs.Ioc.Tasks.{fails_task, ioc_aborts, ioc_resets_target, works_task}
 use Rattle.ioc_tables.specs.Bindings.{is_gone}
-use Rattle.ioc_requests.proofs.Named.{ConfigAskNamed, EventAckNamed, ScsiIoNamed, TaskAskNamed, UnitControlNamed, config_ask_named, event_ack_named, event_ask_named, scsi_io_named, task_ask_named, unit_control_named}
+use Rattle.ioc_requests.proofs.Named.{ConfigAskNamed, EventAckNamed, TaskAskNamed, UnitControlNamed, config_ask_named, event_ack_named, event_ask_named, scsi_io_named, task_ask_named, unit_control_named}
 use Rattle.ioc_core.specs.Configuration.{config_refusal}
 use Rattle.ioc_core.specs.Removing.{control_refusal, removal_refusal, removes_for}
 

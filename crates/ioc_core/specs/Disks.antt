@@ -1,5 +1,5 @@
 -- The disks that the controller knows: what the handles stand for, and the disks for which no handle was unbound.
-use Rattle.std.specs.Prelude.{◌≡◌, ℕ, ◌≤◌, nat_lt, Bool, true, List, count_by, Option, None}
+use Rattle.std.specs.Prelude.{◌≡◌, ℕ, ◌≤◌, nat_lt, Bool, true, List, count_by, None}
 use Rattle.std.specs.List.{list_all, list_any}
 use Rattle.mpi_names.specs.declared.handle.TheConstants.{EXPANDERS}
 use Rattle.mpt_rules.specs.declared.binding.Binding.{Binding}

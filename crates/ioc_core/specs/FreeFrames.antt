@@ -1,5 +1,5 @@
 -- The reply frames that the controller may use.
-use Rattle.std.specs.Prelude.{ℕ, ◌≤◌, ◌<◌, ◌==◌, nat_lt, Bool, true, ◌≡◌, List, count_by}
+use Rattle.std.specs.Prelude.{ℕ, ◌≤◌, ◌==◌, nat_lt, Bool, true, ◌≡◌, List, count_by}
 use Rattle.std.specs.List.{list_all}
 use Rattle.mpi_names.specs.declared.memory.TheConstants.{REPLY_FRAMES}
 

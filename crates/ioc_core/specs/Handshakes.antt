@@ -1,5 +1,5 @@
 -- The replies of handshakes.
-use Rattle.std.specs.Prelude.{◌≡◌, ℕ, ◌≤◌, ◌%◌}
+use Rattle.std.specs.Prelude.{◌≡◌, ◌≤◌, ◌%◌}
 use Rattle.mpt_messages.specs.IocFrames.{reply_length}
 use Rattle.mpt_messages.specs.declared.ioc_reply.IocReply.{IocReply}
 

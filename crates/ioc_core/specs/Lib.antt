@@ -10,4 +10,5 @@ pub mod Plays
 pub mod Removing
 pub mod Seen
 pub mod Takes
+pub mod Things
 pub mod Working

@@ -1,8 +1,7 @@
 -- Remove device by the fields of its request, and the events of disks in two parts: what may take memory, and the rest.
-use Rattle.std.specs.Prelude.{ℕ, ◌+◌, ◌%◌, ◌^◌, ◌==◌, Bool, if◌then◌else◌, List, [], ◌∷◌, ◌++◌, drop, slice_index, Option, Some, None}
+use Rattle.std.specs.Prelude.{ℕ, ◌+◌, ◌%◌, ◌^◌, ◌==◌, Bool, if◌then◌else◌, slice_index, Option, Some, None}
 use Rattle.std.specs.FinSet as set
 use Rattle.mpt_messages.specs.declared.ioc_reply.IocReply.TheVariants as reply
-use Rattle.mpt_trace.specs.declared.entry.Entry.TheVariants as entry
 use Rattle.mpt_wire.specs.Messages.Fields.{remove_device}
 use Rattle.mpt_rules.specs.declared.binding.Binding.{Binding}
 use Rattle.mpt_rules.specs.declared.binding.Binding.TheVariants as binding

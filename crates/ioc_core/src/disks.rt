@@ -1,10 +1,11 @@
 //! The disks that the controller knows.
-ghost use Rattle.std.specs.Prelude.{◌≡◌, ◌++◌, ◌∷◌, [], ◌||◌, None, Some, true, false, not, IfOk, IfSome, IsTrue, OnErr, OnOk, drop, filter, is_some, length, slice_get};
+ghost use Rattle.std.specs.Prelude.{◌≡◌, ◌++◌, ◌∷◌, [], ◌||◌, None, Some, true, false, not, IfOk, IfSome, IsTrue, OnErr, OnOk, count_by, drop, filter, is_some, length, slice_get};
 ghost use Rattle.std.specs.List.{list_any};
 ghost use Rattle.mpt_rules.specs.Ioc.Bindings.{waits_at};
 ghost use Rattle.mpt_rules.specs.Ioc.Places.{is_empty};
 ghost use Rattle.mpt_rules.specs.Ioc.Tables.{is_unbound};
 ghost use Rattle.mpt_rules.specs.declared.binding.Binding.TheVariants as binding;
+ghost use Rattle.mpt_rules.specs.World.Weight.{is_gone_binding};
 ghost use Rattle.ioc_tables.specs.Bindings.{after_bind, after_leaving, binding_at, handle_for, is_gone, is_table_handle, least_free, next_after, no_bindings, with_binding_at};
 ghost use Rattle.ioc_core.specs.Disks.{is_placed, waits_placed};
 
@@ -168,6 +169,20 @@ impl Disks {
         let given = self.bindings.unbind_for(handle, first)?;
         self.waiting.pop_front();
         Ok(given)
+    }
+
+    /// How many handles stand for a disk that was unplugged.
+    pub fn gone_count(&self) -> usize
+        ensures { result ≡ count_by is_gone_binding self.now.bindings }
+    {
+        self.bindings.gone_count()
+    }
+
+    /// How many disks wait for a handle.
+    pub fn waiting_count(&self) -> usize
+        ensures { result ≡ length self.now.waiting }
+    {
+        self.waiting.len()
     }
 
     /// Whether no disk waits for a handle.

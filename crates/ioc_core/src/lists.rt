@@ -1,8 +1,9 @@
 //! The lists of a controller that grow.
-ghost use Rattle.std.specs.Prelude.{◌≡◌, ◌≤◌, ◌<◌, ◌-◌, ◌++◌, ◌∷◌, [], IfOk, OnOk, drop, filter, length, map, not, option_copied, replicate, slice_get, slice_set};
+ghost use Rattle.std.specs.Prelude.{◌≡◌, ◌≤◌, ◌<◌, ◌-◌, ◌^◌, ◌++◌, ◌∷◌, [], IfOk, OnOk, drop, filter, length, map, not, option_copied, replicate, slice_get, slice_set, sum_by};
 ghost use Rattle.std.specs.List.{list_all, list_any};
 ghost use Rattle.mpt_rules.specs.Ioc.Places.{is_empty, is_reply_of};
 ghost use Rattle.mpt_rules.specs.Ioc.Tables.{is_held_as};
+ghost use Rattle.mpt_rules.specs.World.Weight.{said_items};
 ghost use Rattle.ioc_replies.specs.Outboxes.{after_put, waiting_for};
 ghost use Rattle.mpt_rules.specs.Ioc.Commands.{held_answered, is_held_for};
 ghost use Rattle.ioc_core.specs.Lists.{after_puts, after_renewal, lists_of};
@@ -204,6 +205,21 @@ impl IocLists {
         ensures { result ≡ list_any (list_any (is_reply_of smid)) self.now.up }
     {
         self.up.has_reply(smid)
+    }
+
+    /// How many items wait for the reply queues, values not counted.
+    pub fn said_count(&self) -> u128
+        ensures value { result ≡ sum_by said_items self.now.up }
+        ensures most { result ≤ 2 ^ 67 }
+    {
+        self.up.said_count()
+    }
+
+    /// How many items wait for the fabric.
+    pub fn out_count(&self) -> usize
+        ensures { result ≡ length self.now.out }
+    {
+        self.out.len()
     }
 
     /// Whether nothing waits for a reply queue.

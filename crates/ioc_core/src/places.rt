@@ -1,8 +1,9 @@
 //! Where identifiers are, and whether anything is left to do.
-ghost use Rattle.std.specs.Prelude.{◌≡◌, ◌≤◌, length, option_map};
+ghost use Rattle.std.specs.Prelude.{◌≡◌, ◌≤◌, ◌^◌, length, option_map};
 ghost use Rattle.mpt_rules.specs.Ioc.Places.{ioc_quiet, smid_at};
 ghost use Rattle.ioc_tables.specs.Queues.{AreApart};
 ghost use Rattle.ioc_core.specs.Places.{place_of};
+ghost use Rattle.ioc_core.specs.Things.{ioc_things};
 
 use crate::ioc::Ioc;
 use crate::place::IocPlace;
@@ -46,5 +47,20 @@ impl Ioc {
             && self.disks.is_none_waiting()
             && self.requests.is_empty()
             && self.lists.is_held_empty()
+    }
+
+    /// How many things the controller has to do: items to be put, values not counted; posts that aren't processed; handles
+    /// that are to be removed; disks that wait for a handle; and requests that are at the fabric or wait for what is there.
+    pub fn things_to_do(&self) -> u128
+        ensures value { result ≡ ioc_things self.now.part }
+        ensures small { result ≤ 2 ^ 70 }
+    {
+        self.lists.said_count()
+            + self.lists.out_count() as u128
+            + self.queues.count() as u128
+            + self.disks.gone_count() as u128
+            + self.disks.waiting_count() as u128
+            + self.requests.count() as u128
+            + self.lists.held_count() as u128
     }
 }

@@ -3,6 +3,7 @@ ghost use Rattle.std.specs.Prelude.{◌≡◌, ◌≤◌, ◌<◌, ◌+◌, ◌+
 ghost use Rattle.std.specs.List.{list_any};
 ghost use Rattle.mpt_rules.specs.Ioc.Places.{is_empty, is_reply_of};
 ghost use Rattle.mpt_rules.specs.Ioc.Resets.{outlives_reset};
+ghost use Rattle.mpt_rules.specs.World.Weight.{is_said_value, said_items};
 
 use mpt_rules::{OutOfMemory, Said};
 use mpt_trace::Smid;
@@ -79,6 +80,13 @@ impl Outbox {
             .retain(|said| matches!(said, Said::Value(_) | Said::Calm));
     }
 
+    /// How many items wait, values not counted.
+    pub fn said_count(&self) -> usize
+        ensures { result ≡ said_items self.now.items }
+    {
+        self.items.iter().filter(|said| !is_value(said)).count()
+    }
+
     /// Whether nothing waits.
     pub fn is_empty(&self) -> bool
         ensures { result ≡ is_empty self.now.items }
@@ -92,6 +100,13 @@ impl Outbox {
     {
         self.items.iter().any(|said| is_reply_of(smid, said))
     }
+}
+
+// Whether it is the value of a read.
+fn is_value(said: &Said) -> bool
+    ensures { result ≡ is_said_value said.now }
+{
+    matches!(said, Said::Value(_))
 }
 
 // Whether it is a reply of the identifier.

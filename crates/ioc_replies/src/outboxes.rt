@@ -1,8 +1,9 @@
 //! The outboxes of all reply queues.
-ghost use Rattle.std.specs.Prelude.{◌≡◌, ◌≤◌, ◌<◌, ◌-◌, ℕ, [], true, IfOk, OnErr, OnOk, drop, filter, length, map, option_copied, replicate, slice_get, slice_set};
+ghost use Rattle.std.specs.Prelude.{◌≡◌, ◌≤◌, ◌<◌, ◌-◌, ◌^◌, ℕ, [], true, IfOk, OnErr, OnOk, drop, filter, length, map, option_copied, replicate, slice_get, slice_set, sum_by};
 ghost use Rattle.std.specs.List.{list_all, list_any};
 ghost use Rattle.mpt_rules.specs.Ioc.Places.{is_empty, is_reply_of};
 ghost use Rattle.mpt_rules.specs.Ioc.Resets.{marked, outlives_reset};
+ghost use Rattle.mpt_rules.specs.World.Weight.{said_items};
 ghost use Rattle.ioc_replies.specs.Outboxes.{after_put, has_room, items_in, renewed, waiting_for};
 
 use crate::outbox::Outbox;
@@ -109,6 +110,14 @@ impl Outboxes {
         renew_each(&mut self.boxes, generation);
     }
 
+    /// How many items wait, values not counted.
+    pub fn said_count(&self) -> u128
+        ensures value { result ≡ sum_by said_items self.now.boxes }
+        ensures most { result ≤ 2 ^ 67 }
+    {
+        count_said(&self.boxes)
+    }
+
     /// Whether nothing waits.
     pub fn is_empty(&self) -> bool
         ensures { result ≡ list_all is_empty self.now.boxes }
@@ -156,6 +165,19 @@ fn renew(outbox: &mut Outbox, marked: bool, generation: u32)
     if marked {
         outbox.put(Said::Mark { generation });
     }
+}
+
+// How many items wait in them, values not counted.
+fn count_said(boxes: &[Outbox]) -> u128
+    requires { length boxes.now ≤ 8 }
+    ensures value { result ≡ sum_by (λ o. said_items o.items) boxes.now }
+    ensures most { result ≤ 2 ^ 67 }
+{
+    let mut count: u128 = 0;
+    for outbox in boxes {
+        count += outbox.said_count() as u128;
+    }
+    count
 }
 
 // Whether nothing waits in them.

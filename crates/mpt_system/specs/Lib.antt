@@ -6,3 +6,5 @@ pub mod Making
 pub mod Steps
 pub mod Asking
 pub mod Turns
+pub mod Places
+pub mod Weight

@@ -10,6 +10,10 @@ mod faults;
 mod inputs;
 mod making;
 mod parties;
+mod place;
+mod places;
+#[cfg(test)]
+mod places_tests;
 mod puts;
 mod queries;
 mod refusals;
@@ -20,9 +24,12 @@ mod takes;
 mod told;
 mod up_lane;
 mod up_lanes;
+mod weight;
 mod works;
 
 pub use faults::{StepFault, SystemFault};
 pub use mpt_rules::OutOfMemory;
+pub use place::{FramePlace, SmidPlace};
+pub use places::Places;
 pub use stepping::Moved;
 pub use system::System;

@@ -1,9 +1,13 @@
 //! The lane of one reply queue.
-ghost use Rattle.std.specs.Prelude.{◌≡◌, ◌++◌, [], ◌∷◌, OnErr, OnOk, drop, option_copied, slice_get};
+ghost use Rattle.std.specs.Prelude.{◌≡◌, ◌<◌, ◌++◌, [], ◌∷◌, OnErr, OnOk, drop, option_copied, slice_get};
+ghost use Rattle.std.specs.List.{list_any};
 ghost use Rattle.mpt_rules.specs.Ioc.Places.{is_empty};
+ghost use Rattle.mpt_rules.specs.World.Places.{is_answered_by, is_in_frame};
+ghost use Rattle.mpt_rules.specs.World.Weight.{is_value, up_items};
 
+use host_tables::frame_address;
 use mpt_rules::OutOfMemory;
-use mpt_trace::Up;
+use mpt_trace::{Smid, Up};
 use std::alloc::Global;
 use std::collections::VecDeque;
 use std::marker::Model;
@@ -62,5 +66,59 @@ impl UpLane {
         ensures rest { self.new ≡ drop 1 self.old }
     {
         self.items.pop_front()
+    }
+
+    /// How many items there are, values not counted.
+    pub fn item_count(&self) -> usize
+        ensures { result ≡ up_items self.now }
+    {
+        self.items.iter().filter(|item| !is_value(item)).count()
+    }
+
+    /// Whether a reply to this identifier is there.
+    pub fn has_answer(&self, smid: Smid) -> bool
+        ensures { result ≡ list_any (is_answered_by smid) self.now }
+    {
+        self.items.iter().any(|item| is_answered_by(item, smid))
+    }
+
+    /// Whether a reply in this reply frame is there.
+    pub fn has_frame(&self, frame: u8) -> bool
+        requires { frame < 64 }
+        ensures { result ≡ list_any (is_in_frame frame) self.now }
+    {
+        self.items.iter().any(|item| is_in_frame(item, frame))
+    }
+}
+
+// Whether an item is the value of a read.
+fn is_value(item: &Up) -> bool
+    ensures { result ≡ is_value item.now }
+{
+    matches!(item, Up::Value(_))
+}
+
+// Whether an item is a reply to this identifier.
+fn is_answered_by(item: &Up, smid: Smid) -> bool
+    ensures { result ≡ is_answered_by smid item.now }
+{
+    match item {
+        Up::Reply { descriptor, .. } => *descriptor / 0x1_0000 % 0x1_0000 == u64::from(smid),
+        _ => false,
+    }
+}
+
+// Whether an item is a reply in this reply frame.
+fn is_in_frame(item: &Up, frame: u8) -> bool
+    requires { frame < 64 }
+    ensures { result ≡ is_in_frame frame item.now }
+{
+    match item {
+        Up::Reply {
+            descriptor,
+            frame: Some(_),
+            ..
+        } => *descriptor / 0x1_0000_0000 == u64::from(frame_address(u32::from(frame))),
+        _ => false,
     }
 }

@@ -1,12 +1,14 @@
 //! The lanes of all reply queues.
-ghost use Rattle.std.specs.Prelude.{◌≡◌, ◌≤◌, ◌++◌, [], ◌∷◌, IfOk, OnErr, OnOk, drop, length, option_copied, replicate, slice_get, slice_index_or, slice_set};
-ghost use Rattle.std.specs.List.{list_all};
+ghost use Rattle.std.specs.Prelude.{◌≡◌, ◌≤◌, ◌<◌, ◌^◌, ◌++◌, [], ◌∷◌, IfOk, OnErr, OnOk, drop, length, option_copied, replicate, slice_get, slice_index_or, slice_set, sum_by};
+ghost use Rattle.std.specs.List.{list_all, list_any};
 ghost use Rattle.mpt_rules.specs.Ioc.Places.{is_empty};
+ghost use Rattle.mpt_rules.specs.World.Places.{is_answered_by, is_in_frame};
 ghost use Rattle.mpt_rules.specs.World.State.{up_lane};
+ghost use Rattle.mpt_rules.specs.World.Weight.{up_items};
 
 use crate::up_lane::UpLane;
 use mpt_rules::OutOfMemory;
-use mpt_trace::{LaneName, Up};
+use mpt_trace::{LaneName, Smid, Up};
 use std::alloc::Global;
 use std::marker::Model;
 
@@ -57,6 +59,29 @@ impl UpLanes {
         are_empty(&self.lanes)
     }
 
+    /// How many items are on them, values not counted.
+    pub fn item_count(&self) -> u128
+        ensures value { result ≡ sum_by up_items self.now }
+        ensures small { result ≤ 2 ^ 67 }
+    {
+        count_items(&self.lanes)
+    }
+
+    /// Whether a reply to this identifier is on one of them.
+    pub fn has_answer(&self, smid: Smid) -> bool
+        ensures { result ≡ list_any (list_any (is_answered_by smid)) self.now }
+    {
+        have_answer(&self.lanes, smid)
+    }
+
+    /// Whether a reply in this reply frame is on one of them.
+    pub fn has_frame(&self, frame: u8) -> bool
+        requires { frame < 64 }
+        ensures { result ≡ list_any (list_any (is_in_frame frame)) self.now }
+    {
+        have_frame(&self.lanes, frame)
+    }
+
     /// What is taken next from the lane of a reply queue, which stays. None exactly where there is
     /// nothing, or no such queue.
     pub fn front(&self, queue: u8) -> Option<&Up>
@@ -99,6 +124,34 @@ fn are_empty(lanes: &[UpLane]) -> bool
     ensures { result ≡ list_all is_empty lanes.now }
 {
     lanes.iter().all(|lane| lane.is_empty())
+}
+
+// How many items are on these lanes, values not counted.
+fn count_items(lanes: &[UpLane]) -> u128
+    requires { length lanes.now ≤ 8 }
+    ensures value { result ≡ sum_by up_items lanes.now }
+    ensures small { result ≤ 2 ^ 67 }
+{
+    let mut count: u128 = 0;
+    for lane in lanes {
+        count += lane.item_count() as u128;
+    }
+    count
+}
+
+// Whether a reply to this identifier is on one of these lanes.
+fn have_answer(lanes: &[UpLane], smid: Smid) -> bool
+    ensures { result ≡ list_any (list_any (is_answered_by smid)) lanes.now }
+{
+    lanes.iter().any(|lane| lane.has_answer(smid))
+}
+
+// Whether a reply in this reply frame is on one of these lanes.
+fn have_frame(lanes: &[UpLane], frame: u8) -> bool
+    requires { frame < 64 }
+    ensures { result ≡ list_any (list_any (is_in_frame frame)) lanes.now }
+{
+    lanes.iter().any(|lane| lane.has_frame(frame))
 }
 
 /// The name of the lane of a reply queue.

@@ -1,6 +1,5 @@
-use Rattle.std.proofs.Common.{◌≡◌, ◌∙◌, ap, append_assoc, refl, sym, arith}
+use Rattle.std.proofs.Common.{◌∙◌, append_assoc, refl, sym, arith}
 use Rattle.std.proofs.lemmas.List.{append-nil}
-use Rattle.mpt_trace.specs.declared.item.Down.{Down}
 use Rattle.host_tables.proofs.Turns.{goes_on-none, goes_on-other, goes_on-write}
 use Rattle.host_tables.proofs.turn.+go_on.Goals as goal
 

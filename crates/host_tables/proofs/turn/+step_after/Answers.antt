@@ -1,5 +1,4 @@
-use Rattle.std.proofs.Common.{◌≡◌, ◌∙◌, ap, refl, sym, arith}
-use Rattle.mpt_rules.specs.Host.Doorbell.{DoorTurn}
+use Rattle.std.proofs.Common.{◌∙◌, refl, arith}
 use Rattle.host_tables.proofs.Turns.{goes_on-none, goes_on-other, goes_on-write}
 use Rattle.host_tables.proofs.turn.+step_after.Goals as goal
 

@@ -1,4 +1,4 @@
-use Rattle.std.proofs.Common.{◌∙◌, ◌≡◌, ◌≤◌, length, refl, sym, arith}
+use Rattle.std.proofs.Common.{◌∙◌, ◌≤◌, length, refl, sym, arith}
 use Rattle.std.proofs.lemmas.List.{get_or_past}
 use Rattle.ioc_core.proofs.FieldBytes.{field_one}
 use Rattle.ioc_core.proofs.fields.byte_at.Goals as goal

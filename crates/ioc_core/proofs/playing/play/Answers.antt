@@ -1,4 +1,4 @@
-use Rattle.std.proofs.Common.{◌≡◌, ◌∙◌, ◌<◌, ◌++◌, ap, length, sym, arith}
+use Rattle.std.proofs.Common.{◌∙◌, ◌<◌, ◌++◌, ap, length, sym, arith}
 use Rattle.ioc_core.specs.Plays.{HasPlayed, after_moves, talk_from, told_by}
 use Rattle.ioc_core.proofs.Played.{all_played, nothing_played, nothing_said, nothing_told, on_err_given, part_goes_on, talk_goes_on, told_goes_on}
 use Rattle.ioc_core.proofs.playing.play.Goals as goal

@@ -1,4 +1,4 @@
-use Rattle.std.proofs.Common.{◌∙◌, ◌≡◌, ◌<◌, ◌≤◌, length, get_or, ap, arith}
+use Rattle.std.proofs.Common.{◌∙◌, ◌<◌, length, ap, arith}
 use Rattle.std.proofs.lemmas.List.{get_or_default}
 use Rattle.ioc_replies.specs.Outboxes.{OutboxSeen}
 use Rattle.ioc_replies.proofs.Boxes.{nowhere, renewed_all, room_at, room_of}

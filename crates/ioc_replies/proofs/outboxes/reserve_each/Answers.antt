@@ -1,4 +1,4 @@
-use Rattle.std.proofs.Common.{◌∙◌, ◌≡◌, ◌<◌, ◌≤◌, length, get_or, ap, arith}
+use Rattle.std.proofs.Common.{◌∙◌, ◌<◌, ◌≤◌, length, get_or, ap, arith}
 use Rattle.std.proofs.lemmas.List.{get_or_default}
 use Rattle.ioc_replies.specs.Outboxes.{OutboxSeen, items_in}
 use Rattle.ioc_replies.proofs.Boxes.{grown_items, grown_keeps, grown_more, nowhere, room_of}

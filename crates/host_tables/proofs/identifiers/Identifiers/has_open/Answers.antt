@@ -1,4 +1,4 @@
-use Rattle.std.proofs.Common.{◌≡◌, sym, arith}
+use Rattle.std.proofs.Common.{sym, arith}
 use Rattle.host_tables.proofs.SlotTables.{none_open}
 use Rattle.host_tables.proofs.identifiers.Identifiers.has_open.Goals as goal
 

@@ -1,4 +1,3 @@
-use Rattle.std.proofs.Common.{◌∙◌, sym, arith}
 use Rattle.smid_pool.specs.declared.class.Class.TheVariants.{ScsiIo}
 use Rattle.mpt_rules.specs.declared.request.Request.TheVariants as request
 use Rattle.host_tables.proofs.SlotTables.{least_opened, sorted_opened}

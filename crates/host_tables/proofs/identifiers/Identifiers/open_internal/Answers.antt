@@ -1,6 +1,5 @@
-use Rattle.std.proofs.Common.{◌∙◌, sym, arith}
+use Rattle.std.proofs.Common.{arith}
 use Rattle.smid_pool.specs.declared.class.Class.TheVariants.{Internal}
-use Rattle.mpt_rules.specs.declared.request.Request.TheVariants as request
 use Rattle.host_tables.proofs.SlotTables.{least_opened, sorted_opened}
 use Rattle.host_tables.proofs.identifiers.Identifiers.open_internal.Goals as goal
 

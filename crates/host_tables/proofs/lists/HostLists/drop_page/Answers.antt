@@ -1,5 +1,4 @@
 use Rattle.std.proofs.Common.{◌≡◌, not, refl, rules, arith}
-use Rattle.std.specs.List.{filter}
 use borrow.Author.Tests.{tests}
 use Rattle.std.proofs.lemmas.Fn.{filter_same}
 use Rattle.mpt_rules.specs.declared.request.Request.{Request}

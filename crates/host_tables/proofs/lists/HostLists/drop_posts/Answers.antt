@@ -2,7 +2,6 @@ use Rattle.std.proofs.Common.{◌≡◌, refl, rules}
 use Rattle.std.specs.List.{filter}
 use borrow.Author.Tests.{tests}
 use Rattle.std.proofs.lemmas.Fn.{filter_same}
-use Rattle.mpt_trace.specs.declared.item.Down.{Down}
 use Rattle.mpt_rules.specs.Host.Resets.{is_no_post}
 use Rattle.host_tables.proofs.SlotTables.{not_twice}
 use Rattle.host_tables.proofs.lists.HostLists.drop_posts.Goals as goal

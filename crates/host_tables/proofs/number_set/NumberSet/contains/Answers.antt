@@ -1,4 +1,4 @@
-use Rattle.std.proofs.Common.{◌≡◌, ◌∙◌, ap, sym, refl}
+use Rattle.std.proofs.Common.{sym, refl}
 use Rattle.host_tables.proofs.NumberSets.{contains-settled, contains-with_newest}
 use Rattle.std.specs.FinSet as set
 use Rattle.host_tables.proofs.number_set.NumberSet.contains.Goals as goal

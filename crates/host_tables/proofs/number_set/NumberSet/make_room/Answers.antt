@@ -1,4 +1,4 @@
-use Rattle.std.proofs.Common.{◌≡◌, ◌∙◌, None, Some, ap, sym, refl}
+use Rattle.std.proofs.Common.{◌≡◌, Some, sym, refl}
 use Rattle.host_tables.proofs.NumberSets.{settled-added}
 use Rattle.host_tables.proofs.number_set.NumberSet.make_room.Goals as goal
 

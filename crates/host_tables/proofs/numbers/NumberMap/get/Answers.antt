@@ -1,5 +1,4 @@
-use Rattle.std.proofs.Common.{◌≡◌, ◌∙◌, None, Some, option_copied, ap, sym, refl}
-use Rattle.std.specs.Option.{option_or}
+use Rattle.std.proofs.Common.{refl}
 use Rattle.std.specs.FinMap as map
 use Rattle.host_tables.proofs.NumberMaps.{get-settled, get-with_newest}
 use Rattle.host_tables.proofs.numbers.NumberMap.get.Goals as goal

@@ -1,6 +1,4 @@
-use Rattle.std.proofs.Common.{◌≡◌, ◌∙◌, None, Some, ap, sym, refl}
-use Rattle.std.specs.FinMap as map
-use Rattle.host_tables.specs.Numbered.{with_newest}
+use Rattle.std.proofs.Common.{◌≡◌, Some, sym, refl}
 use Rattle.host_tables.proofs.NumberMaps.{settled-insert}
 use Rattle.host_tables.proofs.numbers.NumberMap.make_room.Goals as goal
 

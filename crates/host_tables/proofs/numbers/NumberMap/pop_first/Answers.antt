@@ -1,7 +1,6 @@
-use Rattle.std.proofs.Common.{◌≡◌, ◌∙◌, ◌<◌, ◌∷◌, ap, length, sym, refl, true, arith}
+use Rattle.std.proofs.Common.{◌≡◌, ◌∙◌, ap, sym, true, arith}
 use Rattle.std.specs.Option.{is_none}
 use Rattle.std.specs.Map.{keys_of}
-use Rattle.std.specs.FinMap as map
 use Rattle.host_tables.specs.Numbered.{Numbered}
 use Rattle.host_tables.proofs.NumberMaps.{keys-tree, no_keys}
 use Rattle.host_tables.proofs.numbers.NumberMap.pop_first.Goals as goal

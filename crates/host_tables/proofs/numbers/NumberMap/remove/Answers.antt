@@ -1,4 +1,3 @@
-use Rattle.std.proofs.Common.{◌≡◌, ◌∙◌, None, Some, ap, sym, refl}
 use Rattle.std.specs.FinMap as map
 use Rattle.host_tables.proofs.NumberMaps.{remove-with_newest, settled-remove}
 use Rattle.host_tables.proofs.numbers.NumberMap.remove.Goals as goal

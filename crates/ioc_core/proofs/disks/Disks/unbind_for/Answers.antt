@@ -1,5 +1,5 @@
 use Rattle.std.proofs.Common.{Some}
-use Rattle.ioc_core.proofs.DiskLists.{AreDisks-unbind_for, IsFirst, first_waits}
+use Rattle.ioc_core.proofs.DiskLists.{AreDisks-unbind_for, first_waits}
 use Rattle.ioc_core.proofs.disks.Disks.unbind_for.Goals as goal
 
 pub unbind_for-requires-clause-absent : goal.unbind_for-requires-clause-absent

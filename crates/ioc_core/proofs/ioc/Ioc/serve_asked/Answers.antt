@@ -1,8 +1,7 @@
-use Rattle.std.proofs.Common.{◌++◌, ◌∙◌, Bool, sym, ap, append-nil}
+use Rattle.std.proofs.Common.{◌++◌, ◌∙◌, Bool, sym, ap}
 use Rattle.mpt_rules.specs.Ioc.Commands.{works_scsi}
 use Rattle.mpt_rules.specs.Ioc.Configuration.{works_config}
 use Rattle.mpt_rules.specs.Ioc.Parts.{Ioc}
-use Rattle.mpt_rules.specs.Ioc.Requests.{works_ack, works_enable, works_notification}
 use Rattle.mpt_rules.specs.Ioc.Steps.{after_step}
 use Rattle.mpt_rules.specs.Ioc.Tasks.{works_task}
 use Rattle.mpt_rules.specs.Outcome.{Called}

@@ -1,4 +1,4 @@
-use Rattle.std.proofs.Common.{◌∙◌, ap, sym}
+use Rattle.std.proofs.Common.{◌∙◌, sym}
 use Rattle.ioc_core.proofs.Works.{acked, not_acked}
 use Rattle.ioc_core.proofs.ioc.Ioc.work_ack.Goals as goal
 

@@ -1,5 +1,4 @@
 use Rattle.std.proofs.Common.{◌≡◌, ℕ, ◌++◌, ◌∙◌, OnOk, append-nil, sym, ap, subst}
-use Rattle.mpt_trace.specs.declared.entry.Entry.{Entry}
 use Rattle.mpt_rules.specs.Ioc.Parts.{Ioc}
 use Rattle.mpt_messages.specs.declared.ioc_reply.IocReply.TheVariants as reply
 use Rattle.mpt_rules.specs.Ioc.Replies.{ioc_answers}

@@ -1,6 +1,4 @@
-use Rattle.std.proofs.Common.{◌≡◌, ◌∙◌, sym}
-use Rattle.mpt_wire.specs.Messages.Fields.{handle_in}
-use Rattle.mpt_rules.specs.Ioc.Commands.{is_inconsistent}
+use Rattle.std.proofs.Common.{◌∙◌, sym}
 use Rattle.mpt_rules.specs.declared.binding.Binding.TheVariants as binding
 use Rattle.ioc_core.proofs.Works.{scsi_inconsistent, scsi_other, scsi_served}
 use Rattle.ioc_core.proofs.ioc.Ioc.work_scsi.Goals as goal

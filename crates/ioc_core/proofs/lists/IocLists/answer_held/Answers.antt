@@ -1,4 +1,4 @@
-use Rattle.std.proofs.Common.{◌≡◌, not, filter, rules}
+use Rattle.std.proofs.Common.{not, rules}
 use Rattle.std.proofs.lemmas.Fn.{filter_same}
 use Rattle.mpt_rules.specs.declared.at_fabric.HeldReset.{HeldReset}
 use Rattle.mpt_rules.specs.Ioc.Commands.{is_held_for}

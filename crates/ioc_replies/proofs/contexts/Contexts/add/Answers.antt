@@ -1,5 +1,4 @@
 use Rattle.std.proofs.Common.{◌∙◌, sym, ap, not}
-use Rattle.std.specs.FinSet as set
 use Rattle.ioc_replies.proofs.Members.{added, kept}
 use Rattle.ioc_replies.proofs.contexts.Contexts.add.Goals as goal
 

@@ -1,5 +1,4 @@
-use Rattle.std.proofs.Common.{◌∙◌, sym, ap}
-use Rattle.std.specs.FinSet as set
+use Rattle.std.proofs.Common.{◌∙◌, sym}
 use Rattle.ioc_replies.proofs.Members.{kept}
 use Rattle.ioc_replies.proofs.contexts.Contexts.has.Goals as goal
 

@@ -1,4 +1,3 @@
-use Rattle.std.proofs.Common.{sym}
 use Rattle.ioc_replies.proofs.Members.{removed}
 use Rattle.ioc_replies.proofs.contexts.Contexts.remove.Goals as goal
 

@@ -1,4 +1,4 @@
-use Rattle.std.proofs.Common.{◌≡◌, ◌≤◌, length, arith}
+use Rattle.std.proofs.Common.{arith}
 use Rattle.ioc_replies.proofs.Boxes.{new_size, room_none}
 use Rattle.ioc_replies.proofs.outboxes.Outboxes.new.Goals as goal
 

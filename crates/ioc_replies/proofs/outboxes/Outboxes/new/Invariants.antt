@@ -1,4 +1,4 @@
-use Rattle.std.proofs.Common.{◌≡◌, [], List, map, replicate}
+use Rattle.std.proofs.Common.{◌≡◌, [], map, replicate}
 use Rattle.ioc_replies.specs.Outboxes.{items_in}
 use Rattle.ioc_replies.proofs.outboxes.Outboxes.new.Given as goal
 

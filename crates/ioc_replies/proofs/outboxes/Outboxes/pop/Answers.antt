@@ -1,4 +1,4 @@
-use Rattle.std.proofs.Common.{◌∙◌, ◌≡◌, ◌<◌, ◌≤◌, ◌+◌, ◌-◌, length, get_or, drop, ap, arith}
+use Rattle.std.proofs.Common.{◌∙◌, ◌<◌, length, drop, ap, arith}
 use Rattle.ioc_replies.specs.Outboxes.{OutboxSeen}
 use Rattle.ioc_replies.proofs.Boxes.{pop_there, room_changed}
 use Rattle.ioc_replies.proofs.outboxes.Outboxes.pop.Goals as goal

@@ -1,4 +1,4 @@
-use Rattle.std.proofs.Common.{◌∙◌, ◌≡◌, ◌<◌, ◌≤◌, ◌+◌, ◌-◌, length, get_or, ◌++◌, ◌∷◌, [], ap, arith}
+use Rattle.std.proofs.Common.{◌∙◌, ◌<◌, ◌-◌, length, ◌++◌, ◌∷◌, [], ap, arith}
 use Rattle.ioc_replies.specs.Outboxes.{OutboxSeen}
 use Rattle.ioc_replies.proofs.Boxes.{put_there, room_changed, room_less}
 use Rattle.ioc_replies.proofs.outboxes.Outboxes.put.Goals as goal

@@ -1,4 +1,4 @@
-use Rattle.std.proofs.Common.{◌≡◌, ◌<◌, ◌≤◌, arith}
+use Rattle.std.proofs.Common.{◌<◌, arith}
 use Rattle.ioc_replies.proofs.Boxes.{room_least}
 use Rattle.ioc_replies.proofs.outboxes.Outboxes.renew.Goals as goal
 

@@ -1,4 +1,3 @@
-use Rattle.std.proofs.Common.{sym, ap, ◌∙◌}
 use Rattle.ioc_tables.proofs.Queued.{high_front}
 use Rattle.ioc_tables.proofs.post_queues.PostQueues.front_high.Goals as goal
 

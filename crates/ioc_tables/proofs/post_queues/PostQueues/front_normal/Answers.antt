@@ -1,4 +1,3 @@
-use Rattle.std.proofs.Common.{sym, ap, ◌∙◌}
 use Rattle.ioc_tables.proofs.Queued.{normal_front}
 use Rattle.ioc_tables.proofs.post_queues.PostQueues.front_normal.Goals as goal
 
