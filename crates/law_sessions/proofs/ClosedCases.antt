@@ -115,7 +115,7 @@ module _ (g : LaneName → List Item) (w : World) (same : SameQueues w) (tied : 
       (λ l k. lane_down_put l (g l) x w.down w.up w.out w.back (tied l k))
 
   -- what is first on a lane up is what is taken
-  first_up : (queue : ℕ) (next : Up) (xs : List Up) → g (up_lane queue) ≡ map item.Up xs → LaneAsks (up_lane queue) (g (up_lane queue)) (entry.Take (up_lane queue) (item.Up next)) → (rest : List Up) × (xs ≡ next ∷ rest)
+  pub first_up : (queue : ℕ) (next : Up) (xs : List Up) → g (up_lane queue) ≡ map item.Up xs → LaneAsks (up_lane queue) (g (up_lane queue)) (entry.Take (up_lane queue) (item.Up next)) → (rest : List Up) × (xs ≡ next ∷ rest)
   first_up queue next xs e asks = by_list xs e (first asks)
     where
       itself : same_lane (up_lane queue) (up_lane queue) ≡ true
