@@ -23,7 +23,7 @@ use Rattle.mpt_rules.specs.World.State.{World}
 use Rattle.law_flights.proofs.Lanes.{lane_items}
 use Rattle.law_sessions.specs.OfCases.{SessionsAreOfCases, is_talk, without_talk}
 use Rattle.law_sessions.proofs.Blocks.{Each, each_merged}
-use Rattle.law_sessions.proofs.ClosedCases.{Closes, IsGiven, IsNone, IsOne, SameQueues, Tied, after, closes, parties_of}
+use Rattle.law_sessions.proofs.ClosedCases.{Closes, IsGiven, IsNone, IsOne, SameQueues, LanesTied, after, closes, parties_of}
 use Rattle.law_sessions.proofs.MergedCases.{Of_each, Parties, case_rows, does, done, first_parties, left_by, session_done, session_left, submitter_cases}
 
 -- ---- a rule over entries and over what follows them
@@ -49,7 +49,7 @@ record OfWorld (w : World) (ms : List (Of Open)) : Type 0 where
 abbrev pub PassesAll : (LaneName → List Item) → Parties → List (Of Open) → Type 0
 PassesAll g p ms = (l : LaneName) → Passes (lane_next l) (LaneAsks l) (g l) (flat_map entries_of (done p ms))
 
-goes_on : (g : LaneName → List Item) (w : World) (ms : List (Of Open)) → SameQueues w → Tied g w → Each (Of_each IsGiven) ms → PassesAll g (parties_of w) ms → OfWorld w ms
+goes_on : (g : LaneName → List Item) (w : World) (ms : List (Of Open)) → SameQueues w → LanesTied g w → Each (Of_each IsGiven) ms → PassesAll g (parties_of w) ms → OfWorld w ms
 goes_on g w [] same tied given asks = record { cases = []; allowed = tt; traced = refl; reached = refl }
 goes_on g w (m ∷ ms) same tied given asks =
     by_case (closes g w same tied m.at.value given.0 (λ l. passes_front (lane_next l) (LaneAsks l) (g l) (does (parties_of w) m.at.value).entries (flat_map entries_of (done (does (parties_of w) m.at.value).part ms)) (asks l)))
@@ -65,7 +65,7 @@ goes_on g w (m ∷ ms) same tied given asks =
     parted q = filter-append (λ (e : Entry). not (is_talk e)) (does (parties_of w) m.at.value).entries (flat_map entries_of (done q ms))
 
     by_case : Closes g w (does (parties_of w) m.at.value)
-        → ((v : World) → SameQueues v → Tied (after g (does (parties_of w) m.at.value).entries) v → PassesAll (after g (does (parties_of w) m.at.value).entries) (parties_of v) ms → OfWorld v ms)
+        → ((v : World) → SameQueues v → LanesTied (after g (does (parties_of w) m.at.value).entries) v → PassesAll (after g (does (parties_of w) m.at.value).entries) (parties_of v) ms → OfWorld v ms)
         → OfWorld w (m ∷ ms)
     by_case (IsNone part none t) ih =
         let r = ih w same t (subst (λ (q : Parties). PassesAll (after g (does (parties_of w) m.at.value).entries) q ms) part behind) in

@@ -28,7 +28,7 @@ use Rattle.mpt_rules.specs.World.Cases.{Case, run}
 use Rattle.mpt_rules.specs.World.Settings.{IsCase, OfEveryWorld, Setting, first_world}
 use Rattle.mpt_rules.specs.World.State.{World, up_lane, up_on}
 use Rattle.law_sessions.proofs.Blocks.{Each}
-use Rattle.law_sessions.proofs.ClosedCases.{Closes, IsGiven, IsNone, IsOne, SameQueues, Tied, after, closes, first_up, parties_of}
+use Rattle.law_sessions.proofs.ClosedCases.{Closes, IsGiven, IsNone, IsOne, SameQueues, LanesTied, after, closes, first_up, parties_of}
 use Rattle.law_sessions.proofs.Lanes.{picked_left, picked_right}
 use Rattle.law_sessions.proofs.MergedCases.{Of_each, Parties, case_rows, does, done, first_parties, session_done, submitter_cases}
 use Rattle.law_sessions.proofs.OfCases.{PassesAll, given_all, none_on, passes_behind, passes_front}
@@ -40,8 +40,8 @@ module _ (Q : Parties → Type 0) (S : Parties → Open → Type 0) where
   EachState p (m ∷ ms) = Q p × S p m.at.value × EachState (does p m.at.value).part ms
 
   module _ (P : World → Type 0) (state : (w : World) → P w → Q (parties_of w))
-      (step : (g : LaneName → List Item) (w : World) (c : Open) → P w → SameQueues w → Tied g w → ((l : LaneName) → Passes (lane_next l) (LaneAsks l) (g l) (does (parties_of w) c).entries) → S (parties_of w) c) where
-    all_states : (g : LaneName → List Item) (w : World) (ms : List (Of Open)) → ((cases : List Case) → AllByRecursion IsCase cases → P (run w cases)) → SameQueues w → Tied g w → Each (Of_each IsGiven) ms → PassesAll g (parties_of w) ms → EachState (parties_of w) ms
+      (step : (g : LaneName → List Item) (w : World) (c : Open) → P w → SameQueues w → LanesTied g w → ((l : LaneName) → Passes (lane_next l) (LaneAsks l) (g l) (does (parties_of w) c).entries) → S (parties_of w) c) where
+    all_states : (g : LaneName → List Item) (w : World) (ms : List (Of Open)) → ((cases : List Case) → AllByRecursion IsCase cases → P (run w cases)) → SameQueues w → LanesTied g w → Each (Of_each IsGiven) ms → PassesAll g (parties_of w) ms → EachState (parties_of w) ms
     all_states g w [] every same tied given asks = state w (every [] tt)
     all_states g w (m ∷ ms) every same tied given asks =
         let front : (l : LaneName) → Passes (lane_next l) (LaneAsks l) (g l) (does (parties_of w) m.at.value).entries =
@@ -55,7 +55,7 @@ module _ (Q : Parties → Type 0) (S : Parties → Open → Type 0) where
         behind l = passes_behind (lane_next l) (LaneAsks l) (g l) (does (parties_of w) m.at.value).entries (flat_map entries_of (done (does (parties_of w) m.at.value).part ms)) (asks l)
 
         by_case : Closes g w (does (parties_of w) m.at.value)
-            → ((v : World) → ((cases : List Case) → AllByRecursion IsCase cases → P (run v cases)) → SameQueues v → Tied (after g (does (parties_of w) m.at.value).entries) v → PassesAll (after g (does (parties_of w) m.at.value).entries) (parties_of v) ms → EachState (parties_of v) ms)
+            → ((v : World) → ((cases : List Case) → AllByRecursion IsCase cases → P (run v cases)) → SameQueues v → LanesTied (after g (does (parties_of w) m.at.value).entries) v → PassesAll (after g (does (parties_of w) m.at.value).entries) (parties_of v) ms → EachState (parties_of v) ms)
             → EachState (does (parties_of w) m.at.value).part ms
         by_case (IsNone part none t) ih =
             subst (λ (q : Parties). EachState q ms) (sym part) (ih w every same t (subst (λ (q : Parties). PassesAll (after g (does (parties_of w) m.at.value).entries) q ms) part behind))
@@ -184,7 +184,7 @@ abbrev IsPlainCase : Parties → Open → Type 0
 IsPlainCase p (ByHost c) = IsntStrange p.host c
 IsPlainCase p _ = Unit {0}
 
-plain_step : (g : LaneName → List Item) (w : World) (c : Open) → NothingIsStrange w → SameQueues w → Tied g w → ((l : LaneName) → Passes (lane_next l) (LaneAsks l) (g l) (does (parties_of w) c).entries) → IsPlainCase (parties_of w) c
+plain_step : (g : LaneName → List Item) (w : World) (c : Open) → NothingIsStrange w → SameQueues w → LanesTied g w → ((l : LaneName) → Passes (lane_next l) (LaneAsks l) (g l) (does (parties_of w) c).entries) → IsPlainCase (parties_of w) c
 plain_step g w (ByHost (HostCase.Takes queue next)) nothing same tied asks = by_queue queue (asks (up_lane queue)).0
   where
     by_queue : (q : ℕ) → LaneAsks (up_lane q) (g (up_lane q)) (entry.Take (up_lane q) (item.Up next)) → (takes_up w.host q next).answer ≡ None
