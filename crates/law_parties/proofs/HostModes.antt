@@ -144,15 +144,15 @@ all_changed host (c ∷ cs) = all_changed (removal.hears_change host c).part cs 
 
 -- ---- entries that leave it
 
-abbrev pub IsPlain : Entry → Type 0
-IsPlain (entry.Given input.Start) = ⊥
-IsPlain (entry.Given input.Reset) = ⊥
-IsPlain (entry.Given input.UnitReset) = ⊥
-IsPlain entry.HostUp = ⊥
-IsPlain entry.ResetDone = ⊥
-IsPlain _ = Unit {0}
+abbrev pub KeepsMode : Entry → Type 0
+KeepsMode (entry.Given input.Start) = ⊥
+KeepsMode (entry.Given input.Reset) = ⊥
+KeepsMode (entry.Given input.UnitReset) = ⊥
+KeepsMode entry.HostUp = ⊥
+KeepsMode entry.ResetDone = ⊥
+KeepsMode _ = Unit {0}
 
-plain_entry : (m : HostState) (e : Entry) (ahead : Option Entry) → IsPlain e → mode_entry m e ahead ≡ m
+plain_entry : (m : HostState) (e : Entry) (ahead : Option Entry) → KeepsMode e → mode_entry m e ahead ≡ m
 plain_entry m (entry.Given input.Start) ahead h = absurd h
 plain_entry m (entry.Given input.Reset) ahead h = absurd h
 plain_entry m (entry.Given input.UnitReset) ahead h = absurd h
@@ -161,16 +161,16 @@ plain_entry m entry.ResetDone ahead h = absurd h
 plain_entry m (entry.Given i) ahead h = refl
 plain_entry m _ ahead h = refl
 
-plain_append : (t u : List Entry) → EachEntry IsPlain t → EachEntry IsPlain u → EachEntry IsPlain (t ++ u)
+plain_append : (t u : List Entry) → EachEntry KeepsMode t → EachEntry KeepsMode u → EachEntry KeepsMode (t ++ u)
 plain_append [] u a b = b
 plain_append (e ∷ t) u a b = (a.0, plain_append t u a.1 b)
 
 -- plain entries in front
-pub plain_front : (m : HostState) (t es rest : List Entry) → EachEntry IsPlain t → mode_trace m ((t ++ es) ++ rest) ≡ mode_trace m (es ++ rest)
+pub plain_front : (m : HostState) (t es rest : List Entry) → EachEntry KeepsMode t → mode_trace m ((t ++ es) ++ rest) ≡ mode_trace m (es ++ rest)
 plain_front m [] es rest h = refl
 plain_front m (e ∷ t) es rest h = ap (λ (x : HostState). mode_trace x ((t ++ es) ++ rest)) (plain_entry m e (next_own e ((t ++ es) ++ rest)) h.0) ∙ plain_front m t es rest h.1
 
-pub all_plain : (m : HostState) (t rest : List Entry) → EachEntry IsPlain t → mode_trace m (t ++ rest) ≡ mode_trace m rest
+pub all_plain : (m : HostState) (t rest : List Entry) → EachEntry KeepsMode t → mode_trace m (t ++ rest) ≡ mode_trace m rest
 all_plain m [] rest h = refl
 all_plain m (e ∷ t) rest h = ap (λ (x : HostState). mode_trace x (t ++ rest)) (plain_entry m e (next_own e (t ++ rest)) h.0) ∙ all_plain m t rest h.1
 
@@ -183,7 +183,7 @@ abbrev pub Agrees : HostState → Happening Host → Type 0
 Agrees m o = (rest : List Entry) → NoRefusal rest → mode_trace m (o.entries ++ rest) ≡ mode_trace o.part.mode rest
 
 module _ (m : HostState) where
-  by_plain : (part : Host) (es : List Entry) → part.mode ≡ m → EachEntry IsPlain es → Agrees m (record { part = part; entries = es })
+  by_plain : (part : Host) (es : List Entry) → part.mode ≡ m → EachEntry KeepsMode es → Agrees m (record { part = part; entries = es })
   by_plain part es e h rest n = all_plain m es rest h ∙ ap (λ (x : HostState). mode_trace x rest) (sym e)
 
   quietly_agrees : (host : Host) → host.mode ≡ m → Agrees m (removal.quietly host)
@@ -198,7 +198,7 @@ module _ (m : HostState) where
       by_mode true = quietly_agrees (asks.frees host s) e
       by_mode false = a
 
-  ready_plain : (handle s : ℕ) (p : Phase) (page : Option ℕ) → EachEntry IsPlain (removal.ready_told handle s p page)
+  ready_plain : (handle s : ℕ) (p : Phase) (page : Option ℕ) → EachEntry KeepsMode (removal.ready_told handle s p page)
   ready_plain handle s p page = grind arith
 
   left_mode : (host : Host) (s handle : ℕ) → (removal.left host s handle).mode ≡ host.mode
@@ -232,7 +232,7 @@ module _ (m : HostState) where
       unless_agrees host s (removal.quietly (replies.hears_notified host s)) e (quietly_agrees (replies.hears_notified host s) (mode_asks (asks.frees_internal host s) request.PortEnable ∙ (freed_internal host s ∙ e)))
   answer_agrees host s request.PortEnable v e = unless_agrees host s (replies.after_port_enable host s) e (λ rest n. refl)
 
-  loses_plain : (host : Host) (handle : ℕ) (p : Phase) → EachEntry IsPlain (removal.after_handle_lost host handle p).entries
+  loses_plain : (host : Host) (handle : ℕ) (p : Phase) → EachEntry KeepsMode (removal.after_handle_lost host handle p).entries
   loses_plain host handle phase.WaitRead = tt
   loses_plain host handle (phase.Reading smid) = tt
   loses_plain host handle (phase.Ready address) = (tt, tt)
@@ -242,10 +242,10 @@ module _ (m : HostState) where
   loses_plain host handle phase.WaitInternal = tt
   loses_plain host handle (phase.Removing smid) = tt
 
-  change_plain : (host : Host) (c : Change) → EachEntry IsPlain (removal.hears_change host c).entries
+  change_plain : (host : Host) (c : Change) → EachEntry KeepsMode (removal.hears_change host c).entries
   change_plain host c = let l = loses_plain host c.handle (phase_at host.phases c.handle) in grind (arith, l)
 
-  changes_plain : (host : Host) (cs : List Change) → EachEntry IsPlain (removal.hears_changes host cs).entries
+  changes_plain : (host : Host) (cs : List Change) → EachEntry KeepsMode (removal.hears_changes host cs).entries
   unfolding removal.hears_changes
   changes_plain host [] = tt
   changes_plain host (c ∷ cs) = plain_append _ _ (change_plain host c) (changes_plain (removal.hears_change host c).part cs)
@@ -267,11 +267,11 @@ module _ (m : HostState) where
 
   -- ---- the end of a reset
 
-  each_plain : (f : ℕ → Entry) → ((k : ℕ) → IsPlain (f k)) → (ks : List ℕ) → EachEntry IsPlain (map f ks)
+  each_plain : (f : ℕ → Entry) → ((k : ℕ) → KeepsMode (f k)) → (ks : List ℕ) → EachEntry KeepsMode (map f ks)
   each_plain f h [] = tt
   each_plain f h (k ∷ ks) = (h k, each_plain f h ks)
 
-  targets_plain : (xs : List (Slot Request)) → EachEntry IsPlain (filter_map resets.reset_target xs)
+  targets_plain : (xs : List (Slot Request)) → EachEntry KeepsMode (filter_map resets.reset_target xs)
   targets_plain [] = tt
   targets_plain (Free ∷ xs) = targets_plain xs
   targets_plain (Parked ∷ xs) = targets_plain xs
@@ -335,10 +335,10 @@ module _ (m : HostState) where
 
   -- ---- inputs
 
-  refused_agrees : (host : Host) (i : Input) (refused : Entry) → host.mode ≡ m → IsPlain (entry.Given i) → IsPlain refused → Agrees m (record { part = host; entries = entry.Given i ∷ refused ∷ [] })
+  refused_agrees : (host : Host) (i : Input) (refused : Entry) → host.mode ≡ m → KeepsMode (entry.Given i) → KeepsMode refused → Agrees m (record { part = host; entries = entry.Given i ∷ refused ∷ [] })
   refused_agrees host i refused e p q = by_plain host (entry.Given i ∷ refused ∷ []) e (p, (q, tt))
 
-  granted_agrees : (host : Host) (i : Input) (refused : Refusal → Entry) (cause : Option Refusal) (smid : ℕ) (part : Host) (told : List Entry) → host.mode ≡ m → part.mode ≡ m → IsPlain (entry.Given i) → ((c : Refusal) → IsPlain (refused c)) → EachEntry IsPlain told
+  granted_agrees : (host : Host) (i : Input) (refused : Refusal → Entry) (cause : Option Refusal) (smid : ℕ) (part : Host) (told : List Entry) → host.mode ≡ m → part.mode ≡ m → KeepsMode (entry.Given i) → ((c : Refusal) → KeepsMode (refused c)) → EachEntry KeepsMode told
       → Agrees m (by_result i refused (inputs.granted_unless cause host (inputs.given part told smid)))
   granted_agrees host i refused (Some cause) smid part told e f p q t = refused_agrees host i (refused cause) e p (q cause)
   granted_agrees host i refused None smid part told e f p q t = by_plain part (entry.Given i ∷ told) f (p, t)

@@ -1,6 +1,7 @@
 pub mod AnsweredOnce
 pub mod HostModes
 pub mod InPlace
+mod Kept
 pub mod ModesAgree
 pub mod Numbers
 pub mod OfParty

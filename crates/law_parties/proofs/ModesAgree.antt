@@ -20,7 +20,7 @@ use Rattle.mpt_rules.specs.Session.OpenCases.{fabric_does, host_does, ioc_does}
 use Rattle.mpt_rules.specs.World.Cases.{Case, case_of, happens, run, trace}
 use Rattle.mpt_rules.specs.World.Settings.{Setting, first_world}
 use Rattle.mpt_rules.specs.World.State.{World}
-use Rattle.law_parties.proofs.HostModes.{IsPlain, NoRefusal, all_plain, host_agrees}
+use Rattle.law_parties.proofs.HostModes.{KeepsMode, NoRefusal, all_plain, host_agrees}
 use Rattle.law_parties.proofs.InPlace.{Opens, host_opens, party_same}
 use Rattle.law_parties.proofs.OfParty.{Idles, OfFabric, OfHost, OfIoc, OfParty, of_party}
 use Rattle.law_parties.proofs.Owned.{AreOwned, IsOwned, fabric_owned, host_owned, ioc_owned, own_of}
@@ -47,7 +47,7 @@ module _ (p : Party) (other : same_party p party.Host ≡ false) where
       λ c. let skip : is_of party.Host e ≡ false = not_host e (own_of p e (All-head (IsOwned p) e es own)) in rw skip (by_other es rest (All-tail (IsOwned p) e es own) n c)
 
   -- what another party enters leaves the mode
-  other_plain : (e : Entry) → is_of party.Host e ≡ false → IsPlain e
+  other_plain : (e : Entry) → is_of party.Host e ≡ false → KeepsMode e
   other_plain (entry.Given input.Start) h = absurd (cc)
   other_plain (entry.Given input.Reset) h = absurd (cc)
   other_plain (entry.Given input.UnitReset) h = absurd (cc)
@@ -56,7 +56,7 @@ module _ (p : Party) (other : same_party p party.Host ≡ false) where
   other_plain (entry.Given i) h = tt
   other_plain _ h = tt
 
-  pub others_plain : (es : List Entry) → AreOwned p es → EachEntry IsPlain es
+  pub others_plain : (es : List Entry) → AreOwned p es → EachEntry KeepsMode es
   others_plain [] own = tt
   others_plain (e ∷ es) own = (other_plain e (not_host e (own_of p e (All-head (IsOwned p) e es own))), others_plain es (All-tail (IsOwned p) e es own))
 

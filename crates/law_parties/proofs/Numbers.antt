@@ -49,7 +49,7 @@ module _ (n : ℕ) where
   abbrev pub slots_for : List (Slot Request) → ℕ
   slots_for pool = how_many is_for pool
 
-  pub record Stands (a b : ℕ) (pool : List (Slot Request)) (cmds : finmap.FinMap nat_cmp Cmd) (accepted : finset.FinSet nat_cmp) : Type 0 where
+  pub record KeepsNumber (a b : ℕ) (pool : List (Slot Request)) (cmds : finmap.FinMap nat_cmp Cmd) (accepted : finset.FinSet nat_cmp) : Type 0 where
     pub table : length pool ≡ 280
     pub held : slots_for pool ≡ one_if (is_some (finmap.get cmds n))
     pub accepts : a ≡ one_if (finset.contains accepted n)
@@ -71,11 +71,11 @@ module _ (n : ℕ) where
 
   module _ (a b : ℕ) where
     abbrev pub Numbers : Host → Type 0
-    Numbers host = Stands a b host.pool host.cmds host.accepted
+    Numbers host = KeepsNumber a b host.pool host.cmds host.accepted
 
     -- such a slot gets something else that isn't for the number
-    pub stays : (pool : List (Slot Request)) (cmds : finmap.FinMap nat_cmp Cmd) (accepted : finset.FinSet nat_cmp) (s : ℕ) (y : Slot Request) → IsBeside pool s → is_for y ≡ false → Stands a b pool cmds accepted
-        → Stands a b (set pool (s - 1) y) cmds accepted
+    pub stays : (pool : List (Slot Request)) (cmds : finmap.FinMap nat_cmp Cmd) (accepted : finset.FinSet nat_cmp) (s : ℕ) (y : Slot Request) → IsBeside pool s → is_for y ≡ false → KeepsNumber a b pool cmds accepted
+        → KeepsNumber a b (set pool (s - 1) y) cmds accepted
     stays pool cmds accepted s y beside none h =
         let t = h.table in
         let l = beside.least in
@@ -252,7 +252,7 @@ module _ (n : ℕ) where
     none_for zero = refl
     none_for (suc count) = let h = none_for count in omega (arith, h)
 
-    pub all_are_free : (accepted : finset.FinSet nat_cmp) → a ≡ one_if (finset.contains accepted n) → a ≡ b → Stands a b all_free finmap.empty accepted
+    pub all_are_free : (accepted : finset.FinSet nat_cmp) → a ≡ one_if (finset.contains accepted n) → a ≡ b → KeepsNumber a b all_free finmap.empty accepted
     all_are_free accepted e f =
         record {
           table = length-replicate {A = Slot Request} 280 Free;

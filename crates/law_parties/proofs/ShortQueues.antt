@@ -138,16 +138,16 @@ module _ (high : Bool) where
 
 -- ---- the controller
 
-record Queues (high normal : List Post) : Type 0 where
+record QueuesOnce (high normal : List Post) : Type 0 where
   high_once : AreOnce true high
   normal_once : AreOnce false normal
 
 abbrev HasQueues : Ioc → Type 0
-HasQueues ioc = Queues ioc.high ioc.normal
+HasQueues ioc = QueuesOnce ioc.high ioc.normal
 
 -- the same queues
 as_before : (i k : Ioc) → k.high ≡ i.high → k.normal ≡ i.normal → HasQueues i → HasQueues k
-as_before i k e f h = subst (λ ps. Queues ps k.normal) (sym e) (subst (λ ps. Queues i.high ps) (sym f) h)
+as_before i k e f h = subst (λ ps. QueuesOnce ps k.normal) (sym e) (subst (λ ps. QueuesOnce i.high ps) (sym f) h)
 
 to : (x o : Happening Ioc) → o ≡ x → HasQueues x.part → HasQueues o.part
 to x o e h = subst (λ y. HasQueues y.part) (sym e) h

@@ -52,7 +52,7 @@ use Rattle.mpt_rules.specs.World.Counts.{one_if}
 use Rattle.mpt_rules.specs.World.Inputs.{by_option, by_result, host_told}
 use Rattle.mpt_rules.specs.World.Moves.{told_of}
 use Rattle.mpt_rules.specs.World.State.{up_lane}
-use Rattle.law_parties.proofs.Numbers.{Stands, asked_reset, begun, begun_handshake, begun_late, begun_messages, is_for, least_beside, slots_for, started_by, stays, turned, written}
+use Rattle.law_parties.proofs.Numbers.{KeepsNumber, asked_reset, begun, begun_handshake, begun_late, begun_messages, is_for, least_beside, slots_for, started_by, stays, turned, written}
 use Rattle.law_parties.proofs.Tallies.{Counts, HasTally, IsBy, Tally, all_by, by_before}
 use Rattle.law_parties.proofs.TallyReplies.{CountsTo, quietly_counts, reply_counts}
 use Rattle.law_parties.proofs.TallyResets.{over_counts}
@@ -118,7 +118,7 @@ module _ (n : ℕ) where
             → slots_for n (set host.pool (s - 1) (Open (request.Command k))) + one_if (is_for n (slot_of host.pool s)) ≡ slots_for n host.pool + one_if (k == n) → one_if (is_for n (slot_of host.pool s)) ≡ 0
             → finmap.get (finmap.insert host.cmds k (record { smid = s; handle = handle })) n ≡ cond b (Some (record { smid = s; handle = handle })) (finmap.get host.cmds n)
             → finset.contains (finset.insert host.accepted k) n ≡ (b || finset.contains host.accepted n)
-            → Stands n (g.accepts + one_if (k == n)) g.answers (set host.pool (s - 1) (Open (request.Command k))) (finmap.insert host.cmds k (record { smid = s; handle = handle })) (finset.insert host.accepted k)
+            → KeepsNumber n (g.accepts + one_if (k == n)) g.answers (set host.pool (s - 1) (Open (request.Command k))) (finmap.insert host.cmds k (record { smid = s; handle = handle })) (finset.insert host.accepted k)
         by_key true key w z put has =
             let is : k ≡ n = grind (arith, nat_tests, key) in
             let unused : one_if (finset.contains host.accepted n) ≡ 0 = ap one_if (subst (λ (q : ℕ). finset.contains host.accepted q ≡ false) is new) in

@@ -25,7 +25,7 @@ use Rattle.mpt_rules.specs.Host.Returns as returns
 use Rattle.mpt_rules.specs.Outcome.{Happening}
 use Rattle.mpt_rules.specs.World.Counts.{one_if}
 use Rattle.law_flights.proofs.HostHolds.{in_table}
-use Rattle.law_parties.proofs.Numbers.{IsBeside, Stands, all_changed, asked_internal, beside_after, freed, freed_high, freed_internal, is_for, slots_for, written}
+use Rattle.law_parties.proofs.Numbers.{IsBeside, KeepsNumber, all_changed, asked_internal, beside_after, freed, freed_high, freed_internal, is_for, slots_for, written}
 use Rattle.law_parties.proofs.Tallies.{Counts, HasTally, IsBy, Tally, all_by, by_append}
 
 module _ (n : ℕ) where
@@ -78,7 +78,7 @@ module _ (n : ℕ) where
         after = set host.pool (s - 1) (replies.slot_after (finmap.get host.aborts k))
 
         by_key : (b : Bool) (m : ℕ) → m ≡ one_if b → m ≡ one_if (k == n) → slots_for n after + one_if (is_for n (slot_of host.pool s)) ≡ slots_for n host.pool + 0 → one_if (is_for n (slot_of host.pool s)) ≡ one_if (k == n)
-            → finmap.get (finmap.remove host.cmds k) n ≡ cond b None (finmap.get host.cmds n) → Stands n g.accepts (g.answers + one_if (k == n)) after (finmap.remove host.cmds k) host.accepted
+            → finmap.get (finmap.remove host.cmds k) n ≡ cond b None (finmap.get host.cmds n) → KeepsNumber n g.accepts (g.answers + one_if (k == n)) after (finmap.remove host.cmds k) host.accepted
         by_key true m f f2 w x is =
             let held = h.held in
             let a = h.answers in

@@ -15,7 +15,7 @@ use Rattle.mpt_rules.specs.Session.Sessions.{Session, journals, session_trace}
 use Rattle.mpt_rules.specs.World.Settings.{Setting}
 use Rattle.law_parties.proofs.InPlace.{IsInPlace, case_passes}
 use Rattle.law_parties.proofs.Owned.{AreOwned, IsOwned, own_not_idle}
-use Rattle.law_sessions.proofs.Journals.{HasWholeCases, IsWhole, journals_whole}
+use Rattle.law_sessions.proofs.Journals.{HasWholeCases, IsWholeCase, journals_whole}
 
 module _ {X : Type 0} (P : At X → Type 0) where
   -- it holds of each
@@ -37,11 +37,11 @@ module _ {X : Type 0} (P : At X → Type 0) where
 -- a case that is some party's
 pub record IsSome (block : Block) : Type 0 where
   pub party : Party
-  pub whole : IsWhole party block
+  pub whole : IsWholeCase party block
 
-each_of_row : (party : Party) (n : ℕ) (blocks : List Block) → All (IsWhole party) blocks → Each IsSome (all_of n blocks)
+each_of_row : (party : Party) (n : ℕ) (blocks : List Block) → All (IsWholeCase party) blocks → Each IsSome (all_of n blocks)
 each_of_row party n [] h = tt
-each_of_row party n (b ∷ bs) h = (record { party = party; whole = All-head (IsWhole party) b bs h }, each_of_row party n bs (All-tail (IsWhole party) b bs h))
+each_of_row party n (b ∷ bs) h = (record { party = party; whole = All-head (IsWholeCase party) b bs h }, each_of_row party n bs (All-tail (IsWholeCase party) b bs h))
 
 each_of_rows : (rows : List (Row (List Entry))) → All HasWholeCases rows → Each IsSome (all_merged rows)
 each_of_rows [] h = tt

@@ -61,16 +61,16 @@ abbrev pub SameQueues : World → Type 0
 SameQueues w = length w.ioc.up ≡ length w.up
 
 -- the rules of the lanes have what is on the world's
-abbrev pub Tied : (LaneName → List Item) → World → Type 0
-Tied g w = (l : LaneName) → is_talk_lane l ≡ false → g l ≡ lane_items l w.down w.up w.out w.back
+abbrev pub LanesTied : (LaneName → List Item) → World → Type 0
+LanesTied g w = (l : LaneName) → is_talk_lane l ≡ false → g l ≡ lane_items l w.down w.up w.out w.back
 
 abbrev pub after : (LaneName → List Item) → List Entry → LaneName → List Item
 after g es l = state_after (lane_next l) (g l) es
 
 -- no case of the world, or one
 pub data Closes (g : LaneName → List Item) (w : World) (o : Happening Parties) : Type 0 where
-  IsNone : o.part ≡ parties_of w → without_talk o.entries ≡ [] → Tied (after g o.entries) w → Closes g w o
-  IsOne : (c : Case) (r : Happening World) → IsCase c → case_of w c ≡ r → parties_of r.part ≡ o.part → without_talk o.entries ≡ r.entries → SameQueues r.part → Tied (after g o.entries) r.part → Closes g w o
+  IsNone : o.part ≡ parties_of w → without_talk o.entries ≡ [] → LanesTied (after g o.entries) w → Closes g w o
+  IsOne : (c : Case) (r : Happening World) → IsCase c → case_of w c ≡ r → parties_of r.part ≡ o.part → without_talk o.entries ≡ r.entries → SameQueues r.part → LanesTied (after g o.entries) r.part → Closes g w o
 
 -- ---- entries that aren't talk
 
@@ -83,7 +83,7 @@ quiet_kept (e ∷ es) h = by_entry e h.0 (quiet_kept es h.1)
     by_entry (entry.Take l i) q ih = absurd q
     by_entry e q ih = ap (λ (zs : List Entry). e ∷ zs) ih
 
-module _ (g : LaneName → List Item) (w : World) (same : SameQueues w) (tied : Tied g w) where
+module _ (g : LaneName → List Item) (w : World) (same : SameQueues w) (tied : LanesTied g w) where
   -- nothing happens
   nothing_done : Closes g w (record { part = parties_of w; entries = [] })
   nothing_done = IsNone refl refl tied
@@ -115,7 +115,7 @@ module _ (g : LaneName → List Item) (w : World) (same : SameQueues w) (tied : 
       (λ l k. lane_down_put l (g l) x w.down w.up w.out w.back (tied l k))
 
   -- what is first on a lane up is what is taken
-  first_up : (queue : ℕ) (next : Up) (xs : List Up) → g (up_lane queue) ≡ map item.Up xs → LaneAsks (up_lane queue) (g (up_lane queue)) (entry.Take (up_lane queue) (item.Up next)) → (rest : List Up) × (xs ≡ next ∷ rest)
+  pub first_up : (queue : ℕ) (next : Up) (xs : List Up) → g (up_lane queue) ≡ map item.Up xs → LaneAsks (up_lane queue) (g (up_lane queue)) (entry.Take (up_lane queue) (item.Up next)) → (rest : List Up) × (xs ≡ next ∷ rest)
   first_up queue next xs e asks = by_list xs e (first asks)
     where
       itself : same_lane (up_lane queue) (up_lane queue) ≡ true

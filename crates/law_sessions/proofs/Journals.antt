@@ -53,37 +53,37 @@ rows_rise i (cases ∷ rest) h =
 
 -- ---- its entries are its party's, and the first of a case stands by itself
 
-pub record IsWhole (party : Party) (block : Block) : Type 0 where
+pub record IsWholeCase (party : Party) (block : Block) : Type 0 where
   pub owned : AreOwned party block.value
   pub opens : Opens block.value
 
-pub host_whole : (host : Host) (cs : List (At HostCase)) → All (IsWhole party.Host) (host_journal host cs)
-host_whole host [] = All-nil (IsWhole party.Host)
+pub host_whole : (host : Host) (cs : List (At HostCase)) → All (IsWholeCase party.Host) (host_journal host cs)
+host_whole host [] = All-nil (IsWholeCase party.Host)
 host_whole host (c ∷ cs) =
-    All-cons (IsWhole party.Host) (record { stamp = c.stamp; value = (host_does host c.value).entries }) (host_journal (host_does host c.value).part cs)
+    All-cons (IsWholeCase party.Host) (record { stamp = c.stamp; value = (host_does host c.value).entries }) (host_journal (host_does host c.value).part cs)
     (record { owned = host_owned host c.value; opens = host_opens host c.value }) (host_whole (host_does host c.value).part cs)
 
-pub ioc_whole : (ioc : Ioc) (cs : List (At IocCase)) → All (IsWhole party.Ioc) (ioc_journal ioc cs)
-ioc_whole ioc [] = All-nil (IsWhole party.Ioc)
+pub ioc_whole : (ioc : Ioc) (cs : List (At IocCase)) → All (IsWholeCase party.Ioc) (ioc_journal ioc cs)
+ioc_whole ioc [] = All-nil (IsWholeCase party.Ioc)
 ioc_whole ioc (c ∷ cs) =
-    All-cons (IsWhole party.Ioc) (record { stamp = c.stamp; value = (ioc_does ioc c.value).entries }) (ioc_journal (ioc_does ioc c.value).part cs)
+    All-cons (IsWholeCase party.Ioc) (record { stamp = c.stamp; value = (ioc_does ioc c.value).entries }) (ioc_journal (ioc_does ioc c.value).part cs)
     (record { owned = ioc_owned ioc c.value; opens = ioc_opens ioc c.value }) (ioc_whole (ioc_does ioc c.value).part cs)
 
-pub fabric_whole : (fabric : Fabric) (cs : List (At FabricCase)) → All (IsWhole party.Fabric) (fabric_journal fabric cs)
-fabric_whole fabric [] = All-nil (IsWhole party.Fabric)
+pub fabric_whole : (fabric : Fabric) (cs : List (At FabricCase)) → All (IsWholeCase party.Fabric) (fabric_journal fabric cs)
+fabric_whole fabric [] = All-nil (IsWholeCase party.Fabric)
 fabric_whole fabric (c ∷ cs) =
-    All-cons (IsWhole party.Fabric) (record { stamp = c.stamp; value = (fabric_does fabric c.value).entries }) (fabric_journal (fabric_does fabric c.value).part cs)
+    All-cons (IsWholeCase party.Fabric) (record { stamp = c.stamp; value = (fabric_does fabric c.value).entries }) (fabric_journal (fabric_does fabric c.value).part cs)
     (record { owned = fabric_owned fabric c.value; opens = fabric_opens fabric c.value }) (fabric_whole (fabric_does fabric c.value).part cs)
 
-pub submitter_whole : (i : ℕ) (cs : List (At SubmitterCase)) → All (IsWhole (party.Submitter i)) (submitter_journal i cs)
-submitter_whole i [] = All-nil (IsWhole (party.Submitter i))
+pub submitter_whole : (i : ℕ) (cs : List (At SubmitterCase)) → All (IsWholeCase (party.Submitter i)) (submitter_journal i cs)
+submitter_whole i [] = All-nil (IsWholeCase (party.Submitter i))
 submitter_whole i (c ∷ cs) =
-    All-cons (IsWhole (party.Submitter i)) (record { stamp = c.stamp; value = submitter_does i c.value }) (submitter_journal i cs)
+    All-cons (IsWholeCase (party.Submitter i)) (record { stamp = c.stamp; value = submitter_does i c.value }) (submitter_journal i cs)
     (record { owned = submitter_owned i c.value; opens = submitter_opens i c.value }) (submitter_whole i cs)
 
 -- all of a journal's cases are
 abbrev pub HasWholeCases : Row (List Entry) → Type 0
-HasWholeCases row = All (IsWhole row.party) row.moments
+HasWholeCases row = All (IsWholeCase row.party) row.moments
 
 rows_whole : (i : ℕ) (xs : List (List (At SubmitterCase))) → All HasWholeCases (submitter_rows i xs)
 rows_whole i [] = All-nil HasWholeCases
@@ -93,7 +93,7 @@ rows_whole i (cases ∷ rest) =
 
 own_cases : (row : Row (List Entry)) → HasWholeCases row → HasOwnCases row
 own_cases row h =
-    All-weaker (IsWhole row.party) (λ (b : Block). All (λ (e : Entry). is_of row.party e ≡ true) b.value)
+    All-weaker (IsWholeCase row.party) (λ (b : Block). All (λ (e : Entry). is_of row.party e ≡ true) b.value)
     (λ b w. All-weaker (IsOwned row.party) (λ (e : Entry). is_of row.party e ≡ true) (λ e o. own_of row.party e o) b.value w.owned) row.moments h
 
 -- ---- no two are of one party

@@ -46,7 +46,7 @@ module _ {X Y : Type 0} (pick : Of X → Option Y) where
       by_pick None e ih = ih e
       by_pick (Some z) e ih = absurd (cc)
 
-  picked_left : (xs ys : List (Of X)) → filter_map pick ys ≡ [] → filter_map pick (merged xs ys) ≡ filter_map pick xs
+  pub picked_left : (xs ys : List (Of X)) → filter_map pick ys ≡ [] → filter_map pick (merged xs ys) ≡ filter_map pick xs
   picked_left [] ys h = h
   picked_left (x ∷ xs) ys h = picked-placed_left x xs (picked_left xs) ys h
 
@@ -59,7 +59,7 @@ module _ {X Y : Type 0} (pick : Of X → Option Y) where
     | inr waits ↦ rw waits (ap (λ (zs : List Y). cons_option (pick y) zs) (picked-placed_right x xs none rest ys))
   ]
 
-  picked_right : (xs ys : List (Of X)) → filter_map pick xs ≡ [] → filter_map pick (merged xs ys) ≡ filter_map pick ys
+  pub picked_right : (xs ys : List (Of X)) → filter_map pick xs ≡ [] → filter_map pick (merged xs ys) ≡ filter_map pick ys
   picked_right [] ys h = refl
   picked_right (x ∷ xs) ys h = by_pick (pick x) refl h (λ zs none. picked_right xs zs none)
     where

@@ -7,3 +7,4 @@ mod MergedCases
 mod OfCases
 mod Plans
 mod SessionModes
+mod SessionStates

@@ -23,17 +23,17 @@ use Rattle.mpt_rules.specs.World.State.{World}
 use Rattle.law_flights.proofs.Lanes.{lane_items}
 use Rattle.law_sessions.specs.OfCases.{SessionsAreOfCases, is_talk, without_talk}
 use Rattle.law_sessions.proofs.Blocks.{Each, each_merged}
-use Rattle.law_sessions.proofs.ClosedCases.{Closes, IsGiven, IsNone, IsOne, SameQueues, Tied, after, closes, parties_of}
+use Rattle.law_sessions.proofs.ClosedCases.{Closes, IsGiven, IsNone, IsOne, SameQueues, LanesTied, after, closes, parties_of}
 use Rattle.law_sessions.proofs.MergedCases.{Of_each, Parties, case_rows, does, done, first_parties, left_by, session_done, session_left, submitter_cases}
 
 -- ---- a rule over entries and over what follows them
 
 module _ {G : Type 0} (next : G → Entry → G) (asks : G → Entry → Type 0) where
-  passes_front : (g : G) (t u : List Entry) → Passes next asks g (t ++ u) → Passes next asks g t
+  pub passes_front : (g : G) (t u : List Entry) → Passes next asks g (t ++ u) → Passes next asks g t
   passes_front g [] u p = tt
   passes_front g (e ∷ t) u p = (p.0, passes_front (next g e) t u p.1)
 
-  passes_behind : (g : G) (t u : List Entry) → Passes next asks g (t ++ u) → Passes next asks (state_after next g t) u
+  pub passes_behind : (g : G) (t u : List Entry) → Passes next asks g (t ++ u) → Passes next asks (state_after next g t) u
   passes_behind g [] u p = p
   passes_behind g (e ∷ t) u p = passes_behind (next g e) t u p.1
 
@@ -46,10 +46,10 @@ record OfWorld (w : World) (ms : List (Of Open)) : Type 0 where
   pub traced : without_talk (flat_map entries_of (done (parties_of w) ms)) ≡ trace w cases
   pub reached : left_by (parties_of w) ms ≡ parties_of (run w cases)
 
-abbrev PassesAll : (LaneName → List Item) → Parties → List (Of Open) → Type 0
+abbrev pub PassesAll : (LaneName → List Item) → Parties → List (Of Open) → Type 0
 PassesAll g p ms = (l : LaneName) → Passes (lane_next l) (LaneAsks l) (g l) (flat_map entries_of (done p ms))
 
-goes_on : (g : LaneName → List Item) (w : World) (ms : List (Of Open)) → SameQueues w → Tied g w → Each (Of_each IsGiven) ms → PassesAll g (parties_of w) ms → OfWorld w ms
+goes_on : (g : LaneName → List Item) (w : World) (ms : List (Of Open)) → SameQueues w → LanesTied g w → Each (Of_each IsGiven) ms → PassesAll g (parties_of w) ms → OfWorld w ms
 goes_on g w [] same tied given asks = record { cases = []; allowed = tt; traced = refl; reached = refl }
 goes_on g w (m ∷ ms) same tied given asks =
     by_case (closes g w same tied m.at.value given.0 (λ l. passes_front (lane_next l) (LaneAsks l) (g l) (does (parties_of w) m.at.value).entries (flat_map entries_of (done (does (parties_of w) m.at.value).part ms)) (asks l)))
@@ -65,7 +65,7 @@ goes_on g w (m ∷ ms) same tied given asks =
     parted q = filter-append (λ (e : Entry). not (is_talk e)) (does (parties_of w) m.at.value).entries (flat_map entries_of (done q ms))
 
     by_case : Closes g w (does (parties_of w) m.at.value)
-        → ((v : World) → SameQueues v → Tied (after g (does (parties_of w) m.at.value).entries) v → PassesAll (after g (does (parties_of w) m.at.value).entries) (parties_of v) ms → OfWorld v ms)
+        → ((v : World) → SameQueues v → LanesTied (after g (does (parties_of w) m.at.value).entries) v → PassesAll (after g (does (parties_of w) m.at.value).entries) (parties_of v) ms → OfWorld v ms)
         → OfWorld w (m ∷ ms)
     by_case (IsNone part none t) ih =
         let r = ih w same t (subst (λ (q : Parties). PassesAll (after g (does (parties_of w) m.at.value).entries) q ms) part behind) in
@@ -91,7 +91,7 @@ goes_on g w (m ∷ ms) same tied given asks =
 
 -- ---- the first world
 
-none_on : (l : LaneName) (n : ℕ) → [] ≡ lane_items l [] (replicate n []) [] []
+pub none_on : (l : LaneName) (n : ℕ) → [] ≡ lane_items l [] (replicate n []) [] []
 none_on lane.Down n = refl
 none_on lane.Up n = by_count n
   where
@@ -150,7 +150,7 @@ given_submitters i [] = tt
 given_submitters i (cases ∷ rest) =
     each_merged (Of_each IsGiven) (all_of (party_number (party.Submitter i)) (by_submitter i cases)) (all_merged (submitter_cases (i + 1) rest)) (given_submitter (party_number (party.Submitter i)) i cases) (given_submitters (i + 1) rest)
 
-given_all : (s : Setting) (x : Session) → IsSession s x → Each (Of_each IsGiven) (all_merged (case_rows x))
+pub given_all : (s : Setting) (x : Session) → IsSession s x → Each (Of_each IsGiven) (all_merged (case_rows x))
 given_all s x h =
     let others : List (Of Open) = all_merged (submitter_cases 0 x.submitters) in
     let fabrics : List (Of Open) = merged (all_of 2 (fabric_moments x.fabric)) others in

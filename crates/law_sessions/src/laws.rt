@@ -1,8 +1,8 @@
 //! The laws.
 ghost use Rattle.law_sessions.specs.OfCases.{SessionsAreOfCases};
-ghost use Rattle.mpt_rules.specs.Law.{AllAreAnswered, AnsweredAtMostOnce, SessionLanesAreQueues, SessionModesAgree, SessionsAreMerged, SessionsFitPlans, TellsStandBehind};
+ghost use Rattle.mpt_rules.specs.Law.{AllAreAnswered, AnsweredAtMostOnce, NothingFaults, NothingIsStrange, SessionLanesAreQueues, SessionModesAgree, SessionsAreMerged, SessionsAreNeverStrange, SessionsFitPlans, SessionsNeverFault, TellsStandBehind};
 ghost use Rattle.mpt_rules.specs.Session.Sessions.{EndsQuiet, IsSession, Session, session_trace};
-ghost use Rattle.mpt_rules.specs.World.Settings.{Setting};
+ghost use Rattle.mpt_rules.specs.World.Settings.{OfEveryWorld, Setting};
 ghost use Rattle.mpt_wire.specs.Queues.Lanes.{LanesInOrder};
 
 /// The merge of a session's journals is sorted by stamp and party, and each party's part of it is its journal in order.
@@ -41,4 +41,11 @@ pub fn session_tells_stand_behind()
 /// The machine's mode after a session is that of its host.
 pub fn session_modes_agree()
     ensures { SessionModesAgree }
+{}
+
+/// Where nothing is strange in any world, nothing that the host takes in a session is; and where no controller faults in
+/// any world, none does in a session.
+pub fn sessions_are_as_worlds()
+    ensures strange { OfEveryWorld NothingIsStrange → SessionsAreNeverStrange }
+    ensures fault { OfEveryWorld NothingFaults → SessionsNeverFault }
 {}

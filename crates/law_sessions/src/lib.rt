@@ -7,5 +7,6 @@ mod laws;
 
 pub use laws::{
     session_lanes_are_queues, session_modes_agree, session_tells_stand_behind,
-    sessions_are_answered, sessions_are_merged, sessions_are_of_cases, sessions_fit_plans,
+    sessions_are_answered, sessions_are_as_worlds, sessions_are_merged, sessions_are_of_cases,
+    sessions_fit_plans,
 };

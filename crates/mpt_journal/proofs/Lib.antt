@@ -1,6 +1,6 @@
 pub mod Merges
-pub mod Runs
-pub mod Moments
+mod Runs
+mod Moments
 pub mod Stamps
 pub mod Whole
 pub mod Parts
