@@ -21,3 +21,4 @@ pub mod QueuesTalk
 pub mod QueuesKept
 pub mod QueuesWorld
 pub mod LookKept
+pub mod LiveKept

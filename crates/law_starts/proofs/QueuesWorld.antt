@@ -122,7 +122,7 @@ live_step n i reg value p = by_effect (register_written i.door reg value).effect
     by_effect effect.AdapterReset = inl written
     by_effect (effect.Fault code) = inr (record { fault = refl; waits = written.waits })
 
-stays_live : (n : ℕ) (i : Ioc) (xs : List Down) → IsLive n i → is_fault (written_ahead i xs).door.state ≡ false → IsLive n (written_ahead i xs)
+pub stays_live : (n : ℕ) (i : Ioc) (xs : List Down) → IsLive n i → is_fault (written_ahead i xs).door.state ≡ false → IsLive n (written_ahead i xs)
 unfolding written_ahead
 stays_live n i [] p f = p
 stays_live n i (down.Write reg value ∷ xs) p f = by_step (live_step n i reg value p) (λ q. stays_live n (writes_still i reg value) xs q f)

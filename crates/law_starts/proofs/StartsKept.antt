@@ -12,9 +12,10 @@ use Rattle.law_starts.proofs.AdapterKept.{adapter_kept}
 use Rattle.mpt_rules.specs.World.Counts.{how_many}
 use Rattle.law_clock.specs.Premises.{Before}
 use Rattle.law_doors.proofs.DoorsKept.{resets_heeded}
-use Rattle.law_starts.specs.Starts.{StartFindsReady, StartsStand}
+use Rattle.law_starts.specs.Starts.{LiveAtInit, StartFindsReady, StartsStand}
 use Rattle.law_starts.proofs.HoldsKept.{holds_kept}
 use Rattle.law_starts.proofs.KnowsKept.{knows_kept}
+use Rattle.law_starts.proofs.LiveKept.{live_kept}
 use Rattle.law_starts.proofs.LookKept.{look_kept}
 use Rattle.law_starts.proofs.QueuesWorld.{queues_kept, whole_ahead}
 use Rattle.law_starts.proofs.ResetStepsKept.{reset_steps_kept}
@@ -43,6 +44,9 @@ sound_stands w h c f plain s =
 
 pub look_stands : (w : World) (h : History) (c : Case) → Facts w h → NothingIsStrange w → StartsStand w → StartFindsReady (happens w c)
 look_stands w h c f plain s = look_kept w h (before w h f plain) s.nothing_is_written c
+
+pub live_stands : (w : World) (h : History) (c : Case) → Facts w h → NothingIsStrange w → StartsStand w → LiveAtInit (happens w c)
+live_stands w h c f plain s = live_kept w h (before w h f plain) s c
 
 pub all_queues : (w : World) → StartsStand w → Sizes w → InitQueues w
 all_queues w s z l = s.queues_asked.now l ∙ z.lanes

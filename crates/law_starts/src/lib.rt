@@ -6,5 +6,5 @@ mod laws;
 
 pub use laws::{
     adapter_bit_is_kept, doors_stay_sound, init_asks_for_all_queues, reset_steps_are_kept,
-    starts_are_kept, starts_find_ready, starts_stand_at_first,
+    starts_are_kept, starts_come_up_by_init, starts_find_ready, starts_stand_at_first,
 };
