@@ -7,15 +7,7 @@ pub mod Asking
 pub mod KnowsKept
 pub mod StartsKept
 pub mod Alike
-pub mod Keys
 pub mod Resetting
-pub mod AdapterKept
-pub mod Coming
-pub mod ResetTurns
-pub mod StepsKept
-pub mod StepsWorld
-pub mod StepsIoc
-pub mod ResetStepsKept
 pub mod QueuesTurns
 pub mod QueuesTalk
 pub mod QueuesKept

@@ -1,12 +1,12 @@
 -- Each case keeps that a start's machine is at IOC Init where the controller is OPERATIONAL.
-use Rattle.std.proofs.Common.{◌≡◌, ℕ, ◌+◌, ◌==◌, ◌&&◌, ◌||◌, ◌⊎◌, inl, inr, not, if◌then◌else◌, Bool, true, false, List, [], ◌∷◌, ◌++◌, take, Option, Some, None, is_some, refl, ap, sym, ◌∙◌, subst, arith}
+use Rattle.std.proofs.Common.{◌≡◌, ℕ, ◌⊎◌, inl, inr, Bool, true, false, List, [], ◌∷◌, ◌++◌, take, Option, Some, None, is_some, refl, ap, sym, ◌∙◌, subst, arith}
 use Rattle.mpi_doorbell.specs.DoorRegisters.{DoorRegisters, is_fault, register_written}
 use Rattle.mpi_doorbell.specs.HostDoor.{HostDoor}
 use Rattle.mpi_doorbell.specs.declared.effect.Effect.{Effect}
+use Rattle.mpi_doorbell.specs.declared.registers.TheConstants.{DOORBELL}
 use Rattle.mpi_doorbell.specs.declared.effect.Effect.TheVariants as effect
 use Rattle.mpi_doorbell.specs.declared.stage.Stage.{Stage as DoorStage}
 use Rattle.mpi_doorbell.specs.declared.stage.Stage.TheVariants as door_stage
-use Rattle.mpi_doorbell.specs.declared.state.IocState.{IocState}
 use Rattle.mpi_doorbell.specs.declared.state.IocState.TheVariants as ioc_state
 use Rattle.mpt_messages.specs.declared.host_ask.HostAsk.{HostAsk}
 use Rattle.mpt_messages.specs.declared.host_ask.HostAsk.TheVariants as ask
@@ -44,7 +44,7 @@ use Rattle.law_moves.proofs.IocSpeaks.{CalmTold, IocSpeaks, LinkedUp, News, Spea
 use Rattle.law_moves.proofs.IocTakes as leaf
 use Rattle.law_moves.proofs.IocTakes.{Takes, takes}
 use Rattle.law_moves.proofs.Phases.{and_false}
-use Rattle.law_moves.proofs.Registers.{linked_is, writes_are}
+use Rattle.law_moves.proofs.Registers.{linked_is}
 use Rattle.law_clock.specs.Premises.{Before}
 use Rattle.law_clock.proofs.PhaseKept.{high_words, normal_words}
 use Rattle.law_doors.proofs.Ahead.{ahead-write}
@@ -52,14 +52,9 @@ use Rattle.law_doors.proofs.Whole.{waits_stay, whole_kept}
 use Rattle.law_starts.specs.Starts.{LiveAtInit, StartsStand}
 use Rattle.law_starts.proofs.Answering.{answer_leaves}
 use Rattle.law_starts.proofs.HostAtDoor as at
-use Rattle.law_starts.proofs.HostAtDoor.{Asked, AtDoor, Beginning, Begins, Drops, FactsNext, Free, FromOff, GivesUp, HasValue, InitNext, Keeps, Late, Looked, Marked, Next, NextShake, Opened, PortFactsNext, Readied, Renewed, Turns, base_begun, begins_is}
-use Rattle.law_starts.proofs.QueuesWorld.{IsLive, stays_live}
+use Rattle.law_starts.proofs.HostAtDoor.{Asked, AtDoor, Beginning, Begins, Drops, FactsNext, Free, FromOff, GivesUp, HasValue, InitNext, Keeps, Late, Looked, Marked, Next, NextShake, Opened, PortFactsNext, Readied, Renewed, Turns, base_begun, begins_is, contrary}
+use Rattle.law_starts.proofs.QueuesWorld.{stays_live}
 use Rattle.law_starts.proofs.Resetting.{over_linked}
-use Rattle.law_starts.proofs.StepsIoc.{post_no_write, read_no_write, return_no_write, stop_no_write}
-
-contrary : {T : Type 0} (c : Bool) → c ≡ false → c ≡ true → T
-contrary true e f = absurd (cc)
-contrary false e f = absurd (cc)
 
 resetting_starts : {T : Type 0} (m : HostState) → is_resetting m ≡ true → is_starting m ≡ true → T
 resetting_starts state.Resetting e f = absurd (cc)
@@ -177,26 +172,26 @@ module _ (w : World) (h : History) (b : Before w h) (s : StartsStand w) where
       by_machine (Some d) y q = by_stage d y w.host.stage refl (waits d.stage (b.facts.doorbell.stage.machine d y))
 
   -- a dword with which the controller comes up
-  operates : (value : ℕ) (rest : List Down) → w.down ≡ down.Write Rattle.mpi_doorbell.specs.declared.registers.TheConstants.DOORBELL value ∷ rest → OnIoc (adapter.takes_down w.ioc (down.Write Rattle.mpi_doorbell.specs.declared.registers.TheConstants.DOORBELL value)).part
-  operates value rest e = by_effect (register_written w.ioc.door Rattle.mpi_doorbell.specs.declared.registers.TheConstants.DOORBELL value).effect refl
+  operates : (value : ℕ) (rest : List Down) → w.down ≡ down.Write DOORBELL value ∷ rest → OnIoc (adapter.takes_down w.ioc (down.Write DOORBELL value)).part
+  operates value rest e = by_effect (register_written w.ioc.door DOORBELL value).effect refl
     where
       j : Ioc
-      j = record w.ioc { door = (register_written w.ioc.door Rattle.mpi_doorbell.specs.declared.registers.TheConstants.DOORBELL value).registers }
+      j = record w.ioc { door = (register_written w.ioc.door DOORBELL value).registers }
 
       l : j.door.link_waits ≡ false
-      l = waits_stay w.ioc.door Rattle.mpi_doorbell.specs.declared.registers.TheConstants.DOORBELL value s.nothing_holds.waits
+      l = waits_stay w.ioc.door DOORBELL value s.nothing_holds.waits
 
-      line : (f : Effect) → (register_written w.ioc.door Rattle.mpi_doorbell.specs.declared.registers.TheConstants.DOORBELL value).effect ≡ f → written_ahead (does_still j f) (rest ++ w.host.out) ≡ written_ahead w.ioc (down_line w)
+      line : (f : Effect) → (register_written w.ioc.door DOORBELL value).effect ≡ f → written_ahead (does_still j f) (rest ++ w.host.out) ≡ written_ahead w.ioc (down_line w)
       line f y =
           sym (ap (λ xs. written_ahead w.ioc (xs ++ w.host.out)) e
-          ∙ (ahead-write w.ioc Rattle.mpi_doorbell.specs.declared.registers.TheConstants.DOORBELL value (rest ++ w.host.out) ∙ ap (λ g. written_ahead (does_still j g) (rest ++ w.host.out)) y))
+          ∙ (ahead-write w.ioc DOORBELL value (rest ++ w.host.out) ∙ ap (λ g. written_ahead (does_still j g) (rest ++ w.host.out)) y))
 
       live_on : (i : Ioc) → written_ahead i (rest ++ w.host.out) ≡ written_ahead w.ioc (down_line w) → i.door.link_waits ≡ false → OnIoc i
       live_on i q u y m v =
           let p = stays_live i.vectors i (rest ++ w.host.out) (record { live = v; vectors = refl; waits = u }) (ap (λ (z : Ioc). is_fault z.door.state) q ∙ b.facts.doorbell.sound.whole) in
-          by_ahead (down.Write Rattle.mpi_doorbell.specs.declared.registers.TheConstants.DOORBELL value) rest e refl (sym (ap (λ (z : Ioc). is_operational z.door.state) q) ∙ p.live) y m
+          by_ahead (down.Write DOORBELL value) rest e refl (sym (ap (λ (z : Ioc). is_operational z.door.state) q) ∙ p.live) y m
 
-      by_effect : (f : Effect) → (register_written w.ioc.door Rattle.mpi_doorbell.specs.declared.registers.TheConstants.DOORBELL value).effect ≡ f → OnIoc (registers.after_effect j f).part
+      by_effect : (f : Effect) → (register_written w.ioc.door DOORBELL value).effect ≡ f → OnIoc (registers.after_effect j f).part
       by_effect effect.None y = live_on j (line effect.None y) l
       by_effect (effect.Asked count bytes) y = live_on (registers.handshakes j (take count bytes)) (line (effect.Asked count bytes) y) ((answer_leaves j (take count bytes)).waits ∙ l)
       by_effect effect.UnitReset y = down_ioc (Rattle.mpt_rules.specs.Ioc.Resets.forgets j) refl

@@ -52,15 +52,11 @@ use Rattle.law_starts.specs.Starts.{QueuesAsked, StartsStand}
 use Rattle.law_starts.proofs.Alike.{Alike, alike_ahead}
 use Rattle.law_starts.proofs.Answering.{answer_leaves}
 use Rattle.law_starts.proofs.HostAtDoor as at
-use Rattle.law_starts.proofs.HostAtDoor.{AtDoor}
+use Rattle.law_starts.proofs.HostAtDoor.{AtDoor, contrary, post_no_write, read_no_write, return_no_write, stop_no_write}
 use Rattle.law_starts.proofs.QueuesKept as by_host
 use Rattle.law_starts.proofs.QueuesKept.{alike_queues}
 use Rattle.law_starts.proofs.QueuesTurns.{QueuesIn, SameQueues}
 use Rattle.law_starts.proofs.WrittenKept.{alone}
-
-contrary : {T : Type 0} (c : Bool) → c ≡ false → c ≡ true → T
-contrary true e f = absurd (cc)
-contrary false e f = absurd (cc)
 
 -- ---- a controller that is OPERATIONAL stays so
 
@@ -225,10 +221,10 @@ module _ (w : World) (h : History) (b : Before w h) (s : StartsStand w) where
 
   taken : (x : Down) (rest : List Down) → w.down ≡ x ∷ rest → is_fault (state_of (adapter.takes_down w.ioc x).part) ≡ false → OnIoc (adapter.takes_down w.ioc x).part (rest ++ w.host.out)
   taken (down.Write reg value) rest e n = wrote reg value rest e n
-  taken (down.Read reg) rest e n = by_leaf (down.Read reg) rest (adapter.takes_down w.ioc (down.Read reg)).part e (takes w.ioc s.nothing_holds.waits k.phase_table.whole (down.Read reg)) n (Rattle.law_starts.proofs.StepsIoc.read_no_write reg)
-  taken (down.Post d f p) rest e n = by_leaf (down.Post d f p) rest (adapter.takes_down w.ioc (down.Post d f p)).part e (takes w.ioc s.nothing_holds.waits k.phase_table.whole (down.Post d f p)) n (Rattle.law_starts.proofs.StepsIoc.post_no_write d f p)
-  taken (down.Return a i) rest e n = by_leaf (down.Return a i) rest (adapter.takes_down w.ioc (down.Return a i)).part e (takes w.ioc s.nothing_holds.waits k.phase_table.whole (down.Return a i)) n (Rattle.law_starts.proofs.StepsIoc.return_no_write a i)
-  taken down.Stop rest e n = by_leaf down.Stop rest (adapter.takes_down w.ioc down.Stop).part e (takes w.ioc s.nothing_holds.waits k.phase_table.whole down.Stop) n Rattle.law_starts.proofs.StepsIoc.stop_no_write
+  taken (down.Read reg) rest e n = by_leaf (down.Read reg) rest (adapter.takes_down w.ioc (down.Read reg)).part e (takes w.ioc s.nothing_holds.waits k.phase_table.whole (down.Read reg)) n (read_no_write reg)
+  taken (down.Post d f p) rest e n = by_leaf (down.Post d f p) rest (adapter.takes_down w.ioc (down.Post d f p)).part e (takes w.ioc s.nothing_holds.waits k.phase_table.whole (down.Post d f p)) n (post_no_write d f p)
+  taken (down.Return a i) rest e n = by_leaf (down.Return a i) rest (adapter.takes_down w.ioc (down.Return a i)).part e (takes w.ioc s.nothing_holds.waits k.phase_table.whole (down.Return a i)) n (return_no_write a i)
+  taken down.Stop rest e n = by_leaf down.Stop rest (adapter.takes_down w.ioc down.Stop).part e (takes w.ioc s.nothing_holds.waits k.phase_table.whole down.Stop) n stop_no_write
 
   by_words : (test : Out → Bool) (i : Ioc) → IocSpeaks test w.ioc i → OnIoc i (down_line w)
   by_words test i g = alike_ioc i (down_line w) (record { door = ap core g.door_is; vectors = g.vectors_is; queues = g.queues_is }) refl
