@@ -49,7 +49,7 @@ use Rattle.law_clock.proofs.PhaseKept.{high_words, normal_words}
 use Rattle.law_doors.proofs.Ahead.{ahead-write, core, quiet_ahead}
 use Rattle.law_doors.proofs.Whole.{Stuck, stuck_ahead, waits_stay, whole_kept}
 use Rattle.law_starts.specs.Starts.{QueuesAsked, StartsStand}
-use Rattle.law_starts.proofs.Alike.{Alike, alike_ahead}
+use Rattle.law_starts.proofs.Alike.{DoorAlike, alike_ahead}
 use Rattle.law_starts.proofs.Answering.{answer_leaves}
 use Rattle.law_starts.proofs.HostAtDoor as at
 use Rattle.law_starts.proofs.HostAtDoor.{AtDoor, contrary, post_no_write, read_no_write, return_no_write, stop_no_write}
@@ -176,7 +176,7 @@ module _ (w : World) (h : History) (b : Before w h) (s : StartsStand w) where
           sym p.vectors ∙ (ap (λ (y : Ioc). y.vectors) e ∙ here.ahead.vectors (sym (ap (λ (y : Ioc). is_operational y.door.state) e) ∙ p.live))
 
   -- a controller of which the door has not seen
-  alike_ioc : (i : Ioc) (line : List Down) → Alike i w.ioc → written_ahead w.ioc line ≡ A → OnIoc i line
+  alike_ioc : (i : Ioc) (line : List Down) → DoorAlike i w.ioc → written_ahead w.ioc line ≡ A → OnIoc i line
   alike_ioc i line a e = record { now = alike_queues (queues_of w) i w.ioc a here.now; ahead = alike_queues (queues_of w) (written_ahead i line) (written_ahead w.ioc line) (alike_ahead i w.ioc line a) (subst (QueuesIn (queues_of w)) (sym e) here.ahead) }
 
   -- ---- an item of the host
