@@ -105,24 +105,24 @@ alike_written r s reg value e =
 
 -- ---- two controllers
 
-pub record Alike (i j : Ioc) : Type 0 where
+pub record DoorAlike (i j : Ioc) : Type 0 where
   pub door : core i.door ≡ core j.door
   pub vectors : i.vectors ≡ j.vectors
   pub queues : ioc_queue_count i ≡ ioc_queue_count j
 
-pub alike_same : (i : Ioc) → Alike i i
+pub alike_same : (i : Ioc) → DoorAlike i i
 alike_same i = record { door = refl; vectors = refl; queues = refl }
 
-pub alike_then : (i j k : Ioc) → Alike i j → Alike j k → Alike i k
+pub alike_then : (i j k : Ioc) → DoorAlike i j → DoorAlike j k → DoorAlike i k
 alike_then i j k a b = record { door = a.door ∙ b.door; vectors = a.vectors ∙ b.vectors; queues = a.queues ∙ b.queues }
 
-pub alike_back : (i j : Ioc) → Alike i j → Alike j i
+pub alike_back : (i j : Ioc) → DoorAlike i j → DoorAlike j i
 alike_back i j a = record { door = sym a.door; vectors = sym a.vectors; queues = sym a.queues }
 
 -- ---- an answer
 
-module _ (i j : Ioc) (a : Alike i j) (message : List ℕ) where
-  answers : (r s : IocReply) → r ≡ s → Alike (registers.answers_handshake i r) (registers.answers_handshake j s)
+module _ (i j : Ioc) (a : DoorAlike i j) (message : List ℕ) where
+  answers : (r s : IocReply) → r ≡ s → DoorAlike (registers.answers_handshake i r) (registers.answers_handshake j s)
   answers r s e =
       record {
         door = ap₂ (λ d (x : IocReply). core (answered d (take (Rattle.mpt_messages.specs.IocFrames.reply_length x) (Rattle.mpt_messages.specs.IocFrames.reply_frame x)))) a.door e;
@@ -135,22 +135,22 @@ module _ (i j : Ioc) (a : Alike i j) (message : List ℕ) where
       ap (λ c. if not (is_ready c) then IOC_STATUS_INVALID_STATE else if registers.sizes_fit message && (nat_le 1 (host_msix_vectors_in message) && nat_le (host_msix_vectors_in message) (ioc_queue_count i)) then IOC_STATUS_SUCCESS else IOC_STATUS_INVALID_FIELD) (ap (λ d. d.state) a.door)
       ∙ ap (λ n. if not (is_ready (state_of j)) then IOC_STATUS_INVALID_STATE else if registers.sizes_fit message && (nat_le 1 (host_msix_vectors_in message) && nat_le (host_msix_vectors_in message) n) then IOC_STATUS_SUCCESS else IOC_STATUS_INVALID_FIELD) a.queues
 
-  inits : (n : ℕ) → Alike (registers.inits i message n) (registers.inits j message n)
+  inits : (n : ℕ) → DoorAlike (registers.inits i message n) (registers.inits j message n)
   inits n = by_test (n == IOC_STATUS_SUCCESS)
     where
-      ends : Alike (registers.ends_init i n) (registers.ends_init j n)
+      ends : DoorAlike (registers.ends_init i n) (registers.ends_init j n)
       ends = answers (reply.Plain (byte_of function.IocInit) n) (reply.Plain (byte_of function.IocInit) n) refl
 
-      by_test : (b : Bool) → Alike (if b then registers.operates (registers.ends_init i n) message else registers.ends_init i n) (if b then registers.operates (registers.ends_init j n) message else registers.ends_init j n)
+      by_test : (b : Bool) → DoorAlike (if b then registers.operates (registers.ends_init i n) message else registers.ends_init i n) (if b then registers.operates (registers.ends_init j n) message else registers.ends_init j n)
       by_test true = record { door = ap (λ d. Rattle.mpt_rules.specs.Ioc.Tables.in_state d ioc_state.Operational) ends.door; vectors = refl; queues = ends.queues }
       by_test false = ends
 
-  plain : Alike (registers.answers_handshake i (reply.Plain (slice_index message 3) IOC_STATUS_INVALID_FUNCTION)) (registers.answers_handshake j (reply.Plain (slice_index message 3) IOC_STATUS_INVALID_FUNCTION))
+  plain : DoorAlike (registers.answers_handshake i (reply.Plain (slice_index message 3) IOC_STATUS_INVALID_FUNCTION)) (registers.answers_handshake j (reply.Plain (slice_index message 3) IOC_STATUS_INVALID_FUNCTION))
   plain = answers (reply.Plain (slice_index message 3) IOC_STATUS_INVALID_FUNCTION) (reply.Plain (slice_index message 3) IOC_STATUS_INVALID_FUNCTION) refl
 
-  serves : (f : Option Function) → Alike (registers.serves_handshake i message f) (registers.serves_handshake j message f)
+  serves : (f : Option Function) → DoorAlike (registers.serves_handshake i message f) (registers.serves_handshake j message f)
   serves None = plain
-  serves (Some function.IocInit) = subst (λ n. Alike (registers.inits i message (registers.init_status i message)) (registers.inits j message n)) status (inits (registers.init_status i message))
+  serves (Some function.IocInit) = subst (λ n. DoorAlike (registers.inits i message (registers.init_status i message)) (registers.inits j message n)) status (inits (registers.init_status i message))
   serves (Some function.IocFacts) = answers (reply.Facts i.door.who_init (ioc_queue_count i)) (reply.Facts j.door.who_init (ioc_queue_count j)) (ap₂ (λ n m. reply.Facts n m) (ap (λ d. d.who_init) a.door) a.queues)
   serves (Some function.PortFacts) = answers (reply.PortFacts (port_number_in message) (registers.port_facts_status message)) (reply.PortFacts (port_number_in message) (registers.port_facts_status message)) refl
   serves (Some function.ScsiIo) = plain
@@ -161,30 +161,30 @@ module _ (i j : Ioc) (a : Alike i j) (message : List ℕ) where
   serves (Some function.EventAck) = plain
   serves (Some function.UnitControl) = plain
 
-  pub alike_answers : Alike (registers.handshakes i message) (registers.handshakes j message)
+  pub alike_answers : DoorAlike (registers.handshakes i message) (registers.handshakes j message)
   alike_answers = by_refusal (request_refusal_as kind.Handshake message (function_of (slice_index message 3)))
     where
-      by_refusal : (o : Option MsgFault) → Alike (registers.handshakes_if i message o) (registers.handshakes_if j message o)
+      by_refusal : (o : Option MsgFault) → DoorAlike (registers.handshakes_if i message o) (registers.handshakes_if j message o)
       by_refusal None = serves (function_of (slice_index message 3))
       by_refusal (Some r) = answers (reply.Plain (slice_index message 3) (refusal_status r)) (reply.Plain (slice_index message 3) (refusal_status r)) refl
 
 -- ---- what writes leave
 
-does_alike : (i j : Ioc) (f : Effect) → Alike i j → Alike (does_still i f) (does_still j f)
+does_alike : (i j : Ioc) (f : Effect) → DoorAlike i j → DoorAlike (does_still i f) (does_still j f)
 does_alike i j effect.None a = a
 does_alike i j (effect.Asked count bytes) a = alike_answers i j a (take count bytes)
 does_alike i j effect.UnitReset a = a
 does_alike i j effect.AdapterReset a = a
 does_alike i j (effect.Fault code) a = record { door = ap (λ d. Rattle.mpt_rules.specs.Ioc.Tables.in_state d (ioc_state.Fault code)) a.door; vectors = a.vectors; queues = a.queues }
 
-pub alike_writes : (i j : Ioc) (reg value : ℕ) → Alike i j → Alike (writes_still i reg value) (writes_still j reg value)
+pub alike_writes : (i j : Ioc) (reg value : ℕ) → DoorAlike i j → DoorAlike (writes_still i reg value) (writes_still j reg value)
 alike_writes i j reg value a =
     let w = alike_written i.door j.door reg value a.door in
     let i2 : Ioc = record i { door = (register_written i.door reg value).registers } in
     let j2 : Ioc = record j { door = (register_written j.door reg value).registers } in
-    subst (λ f. Alike (writes_still i reg value) (does_still j2 f)) w.effect_is (does_alike i2 j2 (register_written i.door reg value).effect (record { door = w.door; vectors = a.vectors; queues = a.queues }))
+    subst (λ f. DoorAlike (writes_still i reg value) (does_still j2 f)) w.effect_is (does_alike i2 j2 (register_written i.door reg value).effect (record { door = w.door; vectors = a.vectors; queues = a.queues }))
 
-pub alike_ahead : (i j : Ioc) (xs : List Down) → Alike i j → Alike (written_ahead i xs) (written_ahead j xs)
+pub alike_ahead : (i j : Ioc) (xs : List Down) → DoorAlike i j → DoorAlike (written_ahead i xs) (written_ahead j xs)
 unfolding written_ahead
 alike_ahead i j [] a = a
 alike_ahead i j (down.Write reg value ∷ xs) a = alike_ahead (writes_still i reg value) (writes_still j reg value) xs (alike_writes i j reg value a)
@@ -194,14 +194,14 @@ alike_ahead i j (down.Return d n ∷ xs) a = alike_ahead i j xs a
 alike_ahead i j (down.Stop ∷ xs) a = alike_ahead i j xs a
 
 -- an index leaves all but itself
-index_alike : (i : Ioc) (reg value : ℕ) → (reg == REPLY_POST_HOST_INDEX) ≡ true → Alike (writes_still i reg value) i
-index_alike i reg value e = subst (λ n. Alike (writes_still i n value) i) (sym (Rattle.std.proofs.lemmas.Bool.eqb-true reg REPLY_POST_HOST_INDEX e)) (by_fault (is_fault i.door.state))
+index_alike : (i : Ioc) (reg value : ℕ) → (reg == REPLY_POST_HOST_INDEX) ≡ true → DoorAlike (writes_still i reg value) i
+index_alike i reg value e = subst (λ n. DoorAlike (writes_still i n value) i) (sym (Rattle.std.proofs.lemmas.Bool.eqb-true reg REPLY_POST_HOST_INDEX e)) (by_fault (is_fault i.door.state))
   where
-    by_fault : (b : Bool) → Alike (does_still (record i { door = (if b then quietly i.door else quietly (record i.door { reply_post_host_index = value })).registers }) (if b then quietly i.door else quietly (record i.door { reply_post_host_index = value })).effect) i
+    by_fault : (b : Bool) → DoorAlike (does_still (record i { door = (if b then quietly i.door else quietly (record i.door { reply_post_host_index = value })).registers }) (if b then quietly i.door else quietly (record i.door { reply_post_host_index = value })).effect) i
     by_fault true = record { door = refl; vectors = refl; queues = refl }
     by_fault false = record { door = refl; vectors = refl; queues = refl }
 
-pub plain_alike : (i : Ioc) (xs : List Down) → others is_plain xs ≡ 0 → Alike (written_ahead i xs) i
+pub plain_alike : (i : Ioc) (xs : List Down) → others is_plain xs ≡ 0 → DoorAlike (written_ahead i xs) i
 unfolding written_ahead
 plain_alike i [] z = alike_same i
 plain_alike i (down.Write reg value ∷ xs) z =

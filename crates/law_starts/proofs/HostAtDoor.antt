@@ -61,6 +61,24 @@ use Rattle.law_doors.proofs.StageKept.{Begun, begun_diagnostic, begun_look, begu
 use Rattle.law_doors.proofs.StageWorld.{enabling, reads_ready}
 use Rattle.law_doors.proofs.Turning.{Diagnoses, IsWriteStep, Kind, Looks, Shakes, Units, value_ends}
 
+-- false and true
+pub contrary : {T : Type 0} (c : Bool) → c ≡ false → c ≡ true → T
+contrary true e f = absurd (cc)
+contrary false e f = absurd (cc)
+
+-- items that are no writes
+pub read_no_write : (r reg value : ℕ) → down.Read r ≡ down.Write reg value → ⊥
+read_no_write r reg value e = cc
+
+pub post_no_write : (d : ℕ) (f p : List ℕ) (reg value : ℕ) → down.Post d f p ≡ down.Write reg value → ⊥
+post_no_write d f p reg value e = cc
+
+pub return_no_write : (a i reg value : ℕ) → down.Return a i ≡ down.Write reg value → ⊥
+return_no_write a i reg value e = cc
+
+pub stop_no_write : (reg value : ℕ) → down.Stop ≡ down.Write reg value → ⊥
+stop_no_write reg value e = cc
+
 -- neither a read nor a register write
 abbrev pub is_plain : Down → Bool
 is_plain (down.Write reg value) = reg == REPLY_POST_HOST_INDEX

@@ -40,11 +40,7 @@ use Rattle.law_clock.proofs.PhaseKept.{high_words, normal_words}
 use Rattle.law_doors.proofs.Whole.{whole_kept}
 use Rattle.law_starts.specs.Starts.{NothingIsWritten, StartFindsReady}
 use Rattle.law_starts.proofs.HostAtDoor as at
-use Rattle.law_starts.proofs.HostAtDoor.{Asked, AtDoor, Beginning, Begins, Diagnostic, Drops, FactsNext, Free, FromOff, GivesUp, InitNext, Keeps, Late, Looked, Marked, MessageUnit, Next, NextShake, Opened, PortFactsNext, Readied, Renewed, Turns, base_begun, begins_is}
-
-contrary : {T : Type 0} (c : Bool) → c ≡ false → c ≡ true → T
-contrary true e f = absurd (cc)
-contrary false e f = absurd (cc)
+use Rattle.law_starts.proofs.HostAtDoor.{Asked, AtDoor, Beginning, Begins, Diagnostic, Drops, FactsNext, Free, FromOff, GivesUp, InitNext, Keeps, Late, Looked, Marked, MessageUnit, Next, NextShake, Opened, PortFactsNext, Readied, Renewed, Turns, base_begun, begins_is, contrary}
 
 module _ (w : World) (h : History) (b : Before w h) (u : NothingIsWritten w) where
   k : Clock w h

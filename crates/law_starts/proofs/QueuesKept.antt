@@ -42,7 +42,7 @@ use Rattle.law_moves.proofs.Turns.{keys_doorless}
 use Rattle.law_clock.specs.Premises.{Before}
 use Rattle.law_doors.proofs.Ahead.{ahead-append}
 use Rattle.law_starts.specs.Starts.{StartsStand}
-use Rattle.law_starts.proofs.Alike.{Alike, filtered_ahead, plain_alike, read_ahead}
+use Rattle.law_starts.proofs.Alike.{DoorAlike, filtered_ahead, plain_alike, read_ahead}
 use Rattle.law_starts.proofs.HostAtDoor.{Asked, AtDoor, Beginning, Begins, Diagnostic, Drops, Free, FromOff, GivesUp, HasValue, Keeps, Late, Looked, Marked, MessageUnit, Next, Opened, Readied, Renewed, Turns, asks_with, base_begun, begins_is, is_plain, spoken_plain, value_comes}
 use Rattle.law_starts.proofs.QueuesTalk.{asks_on, reads_on}
 use Rattle.law_starts.proofs.QueuesTurns.{AsksFor, ForFacts, ForInit, ForPortFacts, QueuesIn, doorless, quietly_written}
@@ -121,7 +121,7 @@ unit_effect r i = by_tests (is_fault r.state) r.handshake i
     by_tests false (AskedBytes message) i = absurd (cc)
     by_tests false (Replies left) i = absurd (cc)
 
-pub alike_queues : (q : ℕ) (i j : Ioc) → Alike i j → QueuesIn q j → QueuesIn q i
+pub alike_queues : (q : ℕ) (i j : Ioc) → DoorAlike i j → QueuesIn q j → QueuesIn q i
 alike_queues q i j a p = record { whole = ap (λ (r : DoorRegisters). is_fault r.state) a.door ∙ p.whole; vectors = λ l. a.vectors ∙ p.vectors (sym (ap (λ (r : DoorRegisters). is_operational r.state) a.door) ∙ l); waits = ap (λ (r : DoorRegisters). r.link_waits) a.door ∙ p.waits }
 
 module _ (w : World) (h : History) (b : Before w h) (s : StartsStand w) where

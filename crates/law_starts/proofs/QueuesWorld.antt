@@ -49,18 +49,14 @@ use Rattle.law_clock.proofs.PhaseKept.{high_words, normal_words}
 use Rattle.law_doors.proofs.Ahead.{ahead-write, core, quiet_ahead}
 use Rattle.law_doors.proofs.Whole.{Stuck, stuck_ahead, waits_stay, whole_kept}
 use Rattle.law_starts.specs.Starts.{QueuesAsked, StartsStand}
-use Rattle.law_starts.proofs.Alike.{Alike, alike_ahead}
+use Rattle.law_starts.proofs.Alike.{DoorAlike, alike_ahead}
 use Rattle.law_starts.proofs.Answering.{answer_leaves}
 use Rattle.law_starts.proofs.HostAtDoor as at
-use Rattle.law_starts.proofs.HostAtDoor.{AtDoor}
+use Rattle.law_starts.proofs.HostAtDoor.{AtDoor, contrary, post_no_write, read_no_write, return_no_write, stop_no_write}
 use Rattle.law_starts.proofs.QueuesKept as by_host
 use Rattle.law_starts.proofs.QueuesKept.{alike_queues}
 use Rattle.law_starts.proofs.QueuesTurns.{QueuesIn, SameQueues}
 use Rattle.law_starts.proofs.WrittenKept.{alone}
-
-contrary : {T : Type 0} (c : Bool) → c ≡ false → c ≡ true → T
-contrary true e f = absurd (cc)
-contrary false e f = absurd (cc)
 
 -- ---- a controller that is OPERATIONAL stays so
 
@@ -122,7 +118,7 @@ live_step n i reg value p = by_effect (register_written i.door reg value).effect
     by_effect effect.AdapterReset = inl written
     by_effect (effect.Fault code) = inr (record { fault = refl; waits = written.waits })
 
-stays_live : (n : ℕ) (i : Ioc) (xs : List Down) → IsLive n i → is_fault (written_ahead i xs).door.state ≡ false → IsLive n (written_ahead i xs)
+pub stays_live : (n : ℕ) (i : Ioc) (xs : List Down) → IsLive n i → is_fault (written_ahead i xs).door.state ≡ false → IsLive n (written_ahead i xs)
 unfolding written_ahead
 stays_live n i [] p f = p
 stays_live n i (down.Write reg value ∷ xs) p f = by_step (live_step n i reg value p) (λ q. stays_live n (writes_still i reg value) xs q f)
@@ -180,7 +176,7 @@ module _ (w : World) (h : History) (b : Before w h) (s : StartsStand w) where
           sym p.vectors ∙ (ap (λ (y : Ioc). y.vectors) e ∙ here.ahead.vectors (sym (ap (λ (y : Ioc). is_operational y.door.state) e) ∙ p.live))
 
   -- a controller of which the door has not seen
-  alike_ioc : (i : Ioc) (line : List Down) → Alike i w.ioc → written_ahead w.ioc line ≡ A → OnIoc i line
+  alike_ioc : (i : Ioc) (line : List Down) → DoorAlike i w.ioc → written_ahead w.ioc line ≡ A → OnIoc i line
   alike_ioc i line a e = record { now = alike_queues (queues_of w) i w.ioc a here.now; ahead = alike_queues (queues_of w) (written_ahead i line) (written_ahead w.ioc line) (alike_ahead i w.ioc line a) (subst (QueuesIn (queues_of w)) (sym e) here.ahead) }
 
   -- ---- an item of the host
@@ -225,10 +221,10 @@ module _ (w : World) (h : History) (b : Before w h) (s : StartsStand w) where
 
   taken : (x : Down) (rest : List Down) → w.down ≡ x ∷ rest → is_fault (state_of (adapter.takes_down w.ioc x).part) ≡ false → OnIoc (adapter.takes_down w.ioc x).part (rest ++ w.host.out)
   taken (down.Write reg value) rest e n = wrote reg value rest e n
-  taken (down.Read reg) rest e n = by_leaf (down.Read reg) rest (adapter.takes_down w.ioc (down.Read reg)).part e (takes w.ioc s.nothing_holds.waits k.phase_table.whole (down.Read reg)) n (Rattle.law_starts.proofs.StepsIoc.read_no_write reg)
-  taken (down.Post d f p) rest e n = by_leaf (down.Post d f p) rest (adapter.takes_down w.ioc (down.Post d f p)).part e (takes w.ioc s.nothing_holds.waits k.phase_table.whole (down.Post d f p)) n (Rattle.law_starts.proofs.StepsIoc.post_no_write d f p)
-  taken (down.Return a i) rest e n = by_leaf (down.Return a i) rest (adapter.takes_down w.ioc (down.Return a i)).part e (takes w.ioc s.nothing_holds.waits k.phase_table.whole (down.Return a i)) n (Rattle.law_starts.proofs.StepsIoc.return_no_write a i)
-  taken down.Stop rest e n = by_leaf down.Stop rest (adapter.takes_down w.ioc down.Stop).part e (takes w.ioc s.nothing_holds.waits k.phase_table.whole down.Stop) n Rattle.law_starts.proofs.StepsIoc.stop_no_write
+  taken (down.Read reg) rest e n = by_leaf (down.Read reg) rest (adapter.takes_down w.ioc (down.Read reg)).part e (takes w.ioc s.nothing_holds.waits k.phase_table.whole (down.Read reg)) n (read_no_write reg)
+  taken (down.Post d f p) rest e n = by_leaf (down.Post d f p) rest (adapter.takes_down w.ioc (down.Post d f p)).part e (takes w.ioc s.nothing_holds.waits k.phase_table.whole (down.Post d f p)) n (post_no_write d f p)
+  taken (down.Return a i) rest e n = by_leaf (down.Return a i) rest (adapter.takes_down w.ioc (down.Return a i)).part e (takes w.ioc s.nothing_holds.waits k.phase_table.whole (down.Return a i)) n (return_no_write a i)
+  taken down.Stop rest e n = by_leaf down.Stop rest (adapter.takes_down w.ioc down.Stop).part e (takes w.ioc s.nothing_holds.waits k.phase_table.whole down.Stop) n stop_no_write
 
   by_words : (test : Out → Bool) (i : Ioc) → IocSpeaks test w.ioc i → OnIoc i (down_line w)
   by_words test i g = alike_ioc i (down_line w) (record { door = ap core g.door_is; vectors = g.vectors_is; queues = g.queues_is }) refl

@@ -29,7 +29,7 @@ use Rattle.law_facts.specs.Words.{is_diagnostic_write}
 use Rattle.law_moves.proofs.Hears.{IsOver, is_reset_stage}
 use Rattle.law_moves.proofs.Phases.{and_false}
 use Rattle.law_clock.specs.Premises.{Before}
-use Rattle.law_starts.proofs.HostAtDoor.{HasValue, value_comes}
+use Rattle.law_starts.proofs.HostAtDoor.{HasValue, value_comes, contrary}
 
 -- ---- when a turn is over
 
@@ -155,10 +155,6 @@ module _ (r : DoorRegisters) (reg value : ℕ) where
       by_tests false false p false false q false false false = quiet r refl
 
 -- ---- in a world
-
-contrary : {T : Type 0} (c : Bool) → c ≡ false → c ≡ true → T
-contrary true e f = absurd (cc)
-contrary false e f = absurd (cc)
 
 module _ (w : World) (h : History) (b : Before w h) where
   k : Clock w h

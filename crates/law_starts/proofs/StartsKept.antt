@@ -7,33 +7,26 @@ use Rattle.mpt_rules.specs.World.State.{World}
 use Rattle.law_facts.specs.Facts.{Facts}
 use Rattle.law_facts.specs.Flights.{Sizes}
 use Rattle.law_facts.specs.History.{History}
-use Rattle.law_facts.specs.DoorAhead.{AdapterBit, DoorIsSound, InitQueues, ResetSteps, written_ahead}
-use Rattle.law_starts.proofs.AdapterKept.{adapter_kept}
+use Rattle.law_facts.specs.DoorAhead.{DoorIsSound, InitQueues, written_ahead}
 use Rattle.mpt_rules.specs.World.Counts.{how_many}
 use Rattle.law_clock.specs.Premises.{Before}
 use Rattle.law_doors.proofs.DoorsKept.{resets_heeded}
-use Rattle.law_starts.specs.Starts.{StartFindsReady, StartsStand}
+use Rattle.law_starts.specs.Starts.{LiveAtInit, StartFindsReady, StartsStand}
 use Rattle.law_starts.proofs.HoldsKept.{holds_kept}
 use Rattle.law_starts.proofs.KnowsKept.{knows_kept}
+use Rattle.law_starts.proofs.LiveKept.{live_kept}
 use Rattle.law_starts.proofs.LookKept.{look_kept}
 use Rattle.law_starts.proofs.QueuesWorld.{queues_kept, whole_ahead}
-use Rattle.law_starts.proofs.ResetStepsKept.{reset_steps_kept}
 use Rattle.law_starts.proofs.WrittenKept.{written_kept}
 
 module _ (w : World) (h : History) (f : Facts w h) (plain : NothingIsStrange w) where
-  before : Before w h
+  pub before : Before w h
   before = record { facts = f; plain = plain; heeded = resets_heeded w h f }
 
 pub starts_kept : (w : World) (h : History) (c : Case) → Facts w h → NothingIsStrange w → StartsStand w → StartsStand (happens w c)
 starts_kept w h c f plain s =
     let b = before w h f plain in
     record { nothing_holds = holds_kept w h b s.nothing_holds c; nothing_is_written = written_kept w h b s.nothing_is_written c; knows_no_host = knows_kept w h b s.knows_no_host c; queues_asked = queues_kept w h b s c }
-
-pub adapter_stands : (w : World) (h : History) (c : Case) → Facts w h → NothingIsStrange w → AdapterBit (happens w c)
-adapter_stands w h c f plain = adapter_kept w h (before w h f plain) c
-
-pub reset_steps_stand : (w : World) (h : History) (c : Case) → Facts w h → NothingIsStrange w → StartsStand w → ResetSteps (happens w c)
-reset_steps_stand w h c f plain s = reset_steps_kept w h (before w h f plain) s c
 
 pub sound_stands : (w : World) (h : History) (c : Case) → Facts w h → NothingIsStrange w → StartsStand w → DoorIsSound (happens w c)
 sound_stands w h c f plain s =
@@ -43,6 +36,9 @@ sound_stands w h c f plain s =
 
 pub look_stands : (w : World) (h : History) (c : Case) → Facts w h → NothingIsStrange w → StartsStand w → StartFindsReady (happens w c)
 look_stands w h c f plain s = look_kept w h (before w h f plain) s.nothing_is_written c
+
+pub live_stands : (w : World) (h : History) (c : Case) → Facts w h → NothingIsStrange w → StartsStand w → LiveAtInit (happens w c)
+live_stands w h c f plain s = live_kept w h (before w h f plain) s c
 
 pub all_queues : (w : World) → StartsStand w → Sizes w → InitQueues w
 all_queues w s z l = s.queues_asked.now l ∙ z.lanes

@@ -54,7 +54,7 @@ use Rattle.law_clock.proofs.PhaseKept.{high_words, level_phase, normal_words}
 use Rattle.law_doors.proofs.Whole.{whole_kept}
 use Rattle.law_starts.specs.Starts.{NothingIsWritten}
 use Rattle.law_starts.proofs.HostAtDoor as at
-use Rattle.law_starts.proofs.HostAtDoor.{Asked, AtDoor, Beginning, Begins, Diagnostic, Drops, FactsNext, NextShake, Free, FromOff, GivesUp, HasValue, InitNext, Keeps, Late, Looked, Marked, MessageUnit, Next, Opened, PortFactsNext, Readied, Renewed, ResetMachine, Turns, base_begun, begins_is, is_plain, value_comes}
+use Rattle.law_starts.proofs.HostAtDoor.{Asked, AtDoor, Beginning, Begins, Diagnostic, Drops, FactsNext, NextShake, Free, FromOff, GivesUp, HasValue, InitNext, Keeps, Late, Looked, Marked, MessageUnit, Next, Opened, PortFactsNext, Readied, Renewed, ResetMachine, Turns, base_begun, begins_is, is_plain, value_comes, contrary}
 
 plain_no_write : (x : Down) → is_plain x ≡ true → is_register_write x ≡ false
 plain_no_write (down.Write reg value) e = ap not e
@@ -66,10 +66,6 @@ plain_no_write down.Stop e = refl
 empty_none : (test : Down → Bool) (xs : List Down) → length xs ≡ 0 → how_many test xs ≡ 0
 empty_none test [] e = how_many-nil test
 empty_none test (x ∷ xs) e = absurd (omega (arith, e))
-
-false_true : {T : Type 0} (c : Bool) → c ≡ false → c ≡ true → T
-false_true true e f = absurd (cc)
-false_true false e f = absurd (cc)
 
 look_quiet : how_many is_register_write (next_turn look_at_doorbell None).writes ≡ 0
 unfolding turn_from how_many
@@ -148,10 +144,10 @@ module _ (w : World) (h : History) (b : Before w h) (u : NothingIsWritten w) whe
       omega (arith, a, c, e, f, o, n, z, y)
 
   not_reset : {T : Type 0} (mode : HostState) (l r : Bool) → is_resetting mode ≡ false → ((is_resetting mode && l) && r) ≡ true → T
-  not_reset mode l r e g = false_true (is_resetting mode) e (and_false _ _ (and_false _ _ g).0).0
+  not_reset mode l r e g = contrary (is_resetting mode) e (and_false _ _ (and_false _ _ g).0).0
 
   not_level : {T : Type 0} (m l r : Bool) → l ≡ false → ((m && l) && r) ≡ true → T
-  not_level m l r e g = false_true l e (and_false _ _ (and_false _ _ g).0).1
+  not_level m l r e g = contrary l e (and_false _ _ (and_false _ _ g).0).1
 
   level : is_resetting w.host.mode ≡ false → ((w.host.asked + 1) % 2 ^ 32 == w.ioc.generation) ≡ false
   level m =
@@ -185,10 +181,10 @@ module _ (w : World) (h : History) (b : Before w h) (u : NothingIsWritten w) whe
     over e false t = not_linked (rs.value d reading.ResetOver v hv.machine_is resetting (hv.at ∙ ap door_stage.Awaits e) (value_comes w d y v hv) t)
 
     started : {T : Type 0} → is_resetting w.host.mode ≡ false → T
-    started e = false_true (is_resetting w.host.mode) e resetting
+    started e = contrary (is_resetting w.host.mode) e resetting
 
     by_stage : (s : Stage) → ReadsFor s y → IsInMode w s → how_many is_register_write (next_turn d (Some v)).writes ≡ 0
-    by_stage stage.DiagnosticReset (inl e) i = false_true w.host.returning (k.one_reset_write.begun begun) (subst (ResetStep w) e (rs.step d y hv.machine_is resetting hv.at)).0
+    by_stage stage.DiagnosticReset (inl e) i = contrary w.host.returning (k.one_reset_write.begun begun) (subst (ResetStep w) e (rs.step d y hv.machine_is resetting hv.at)).0
     by_stage stage.DiagnosticReset (inr (inl e)) i = over e (has v DIAG_RESET_ADAPTER) refl
     by_stage stage.DiagnosticReset (inr (inr e)) i = at_y (reading.State kind.Diagnostic) e (state_quiet d v kind.Diagnostic)
     by_stage stage.UnitReset (inl e) i = at_y reading.UnitReset e (unit_quiet d v)
@@ -260,7 +256,7 @@ module _ (w : World) (h : History) (b : Before w h) (u : NothingIsWritten w) whe
           longer x.out q.grows.added q.grows.is plain
           (u.reset (sym (ap (λ n. (is_resetting n && (x.asked == w.ioc.generation)) && is_reset (state_of w.ioc)) m ∙ ap (λ n. (is_resetting w.host.mode && (n == w.ioc.generation)) && is_reset (state_of w.ioc)) q.asked_is) ∙ g))
       by_mode (inr m) g = not_reset x.mode (x.asked == w.ioc.generation) (is_reset (state_of w.ioc)) (ap is_resetting m.2) g
-  host x t (GivesUp s rs2 m r f) = subst OnHost (sym f) (record { look = λ e. false_true (is_reset_stage s) (ap is_reset_stage e) rs2; reset = λ g. not_level true ((w.host.asked + 1) % 2 ^ 32 == w.ioc.generation) (is_reset (state_of w.ioc)) (level m) g })
+  host x t (GivesUp s rs2 m r f) = subst OnHost (sym f) (record { look = λ e. contrary (is_reset_stage s) (ap is_reset_stage e) rs2; reset = λ g. not_level true ((w.host.asked + 1) % 2 ^ 32 == w.ioc.generation) (is_reset (state_of w.ioc)) (level m) g })
   host x t (Drops n y v rest g r f) = subst OnHost (sym f) (record { look = u.look; reset = u.reset })
   host x t (Begins base s d t2 q f) =
       let g = base_begun q in
@@ -317,9 +313,9 @@ module _ (w : World) (h : History) (b : Before w h) (u : NothingIsWritten w) whe
       first false d e f = sym e ∙ f ∙ refl
 
   taken : (i : Ioc) (x : Down) (rest : List Down) → w.down ≡ x ∷ rest → Takes w.ioc x i → is_fault (state_of i) ≡ false → OnIoc i rest
-  taken i x rest e (leaf.Faults y j g) n = false_true _ n g
+  taken i x rest e (leaf.Faults y j g) n = contrary _ n g
   taken i x rest e (leaf.Written reg value j nr s sa) n = passed (down.Write reg value) rest i e (ap (λ (y : Ioc). y.generation) sa) s
-  taken i x rest e (leaf.Operates value j nr r s sa) n = record { look = λ q. fewer x rest e (u.look q); reset = λ q. false_true (is_reset (state_of i)) (ap is_reset s) (and_false (is_resetting w.host.mode && (w.host.asked == i.generation)) (is_reset (state_of i)) q).1 }
+  taken i x rest e (leaf.Operates value j nr r s sa) n = record { look = λ q. fewer x rest e (u.look q); reset = λ q. contrary (is_reset (state_of i)) (ap is_reset s) (and_false (is_resetting w.host.mode && (w.host.asked == i.generation)) (is_reset (state_of i)) q).1 }
   taken i x rest e (leaf.Forgets reg value d r) n = record { look = λ q. alone reg value rest e r; reset = λ q. alone reg value rest e r }
   taken i x rest e (leaf.Reads reg value) n = passed (down.Read reg) rest i e refl refl
   taken i x rest e (leaf.Posts d g p j o sa) n = passed (down.Post d g p) rest i e (ap (λ (y : Ioc). y.generation) sa) (ap (λ (y : Ioc). y.door.state) sa)
@@ -340,7 +336,7 @@ module _ (w : World) (h : History) (b : Before w h) (u : NothingIsWritten w) whe
   told x o (LinkedUp n i g r e) =
       record {
         look = u.look;
-        reset = λ q. false_true (is_reset (state_of o.part)) (ap (λ (y : Happening Ioc). is_reset (state_of y.part)) e ∙ ap is_reset (linked_is w.ioc.door b.facts.doorbell.sound.hold)) (and_false (is_resetting w.host.mode && (w.host.asked == o.part.generation)) (is_reset (state_of o.part)) q).1;
+        reset = λ q. contrary (is_reset (state_of o.part)) (ap (λ (y : Happening Ioc). is_reset (state_of y.part)) e ∙ ap is_reset (linked_is w.ioc.door b.facts.doorbell.sound.hold)) (and_false (is_resetting w.host.mode && (w.host.asked == o.part.generation)) (is_reset (state_of o.part)) q).1;
       }
   told x o (CalmTold i e) = same_ioc o.part (ap (λ (y : Happening Ioc). y.part.generation) e) (ap (λ (y : Happening Ioc). state_of y.part) e)
 

@@ -1,5 +1,5 @@
 -- Further facts of the doorbell: what no write on its way does, and what a controller that isn't OPERATIONAL knows of its host.
-use Rattle.std.specs.Prelude.{◌≡◌, ◌==◌, ◌&&◌, Bool, true, false, Some}
+use Rattle.std.specs.Prelude.{◌≡◌, ◌==◌, ◌&&◌, Bool, true, false, Some, is_some}
 use Rattle.mpi_doorbell.specs.Bytes.{has}
 use Rattle.mpi_doorbell.specs.HostDoor.{HostDoor}
 use Rattle.mpi_doorbell.specs.declared.registers.TheConstants.{DIAG_HOLD_IOC_RESET, HOST_DIAGNOSTIC}
@@ -11,6 +11,7 @@ use Rattle.mpt_trace.specs.declared.item.Down.TheVariants as down
 use Rattle.mpt_rules.specs.declared.said.Said.{Said}
 use Rattle.mpt_rules.specs.declared.said.Said.TheVariants as said
 use Rattle.mpt_rules.specs.declared.stage.Stage.TheVariants as stage
+use Rattle.mpt_rules.specs.Host.Takes.{is_starting}
 use Rattle.mpt_rules.specs.World.Counts.{how_many, is_register_write}
 use Rattle.mpt_rules.specs.World.Lines.{down_line, up_line}
 use Rattle.mpt_rules.specs.World.State.{World, queues_of}
@@ -50,6 +51,10 @@ pub record NothingIsWritten (w : World) : Type 0 where
 
 abbrev pub StartFindsReady : World → Type 0
 StartFindsReady w = w.host.stage ≡ stage.Start → w.ioc.door.state ≡ Ready
+
+-- and its machine is at IOC Init once the controller is OPERATIONAL
+abbrev pub LiveAtInit : World → Type 0
+LiveAtInit w = is_starting w.host.mode ≡ true → is_some w.host.machine ≡ true → is_live w ≡ true → w.host.stage ≡ stage.Init
 
 -- ---- a controller that isn't OPERATIONAL knows no host
 

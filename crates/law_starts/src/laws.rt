@@ -3,11 +3,11 @@ ghost use Rattle.mpt_rules.specs.World.Cases.{Case, happens};
 ghost use Rattle.mpt_rules.specs.Law.{NothingIsStrange};
 ghost use Rattle.mpt_rules.specs.World.Settings.{Setting, first_world};
 ghost use Rattle.mpt_rules.specs.World.State.{World};
-ghost use Rattle.law_facts.specs.DoorAhead.{AdapterBit, DoorIsSound, InitQueues, ResetSteps};
+ghost use Rattle.law_facts.specs.DoorAhead.{DoorIsSound, InitQueues};
 ghost use Rattle.law_facts.specs.Facts.{Facts};
 ghost use Rattle.law_facts.specs.Flights.{Sizes};
 ghost use Rattle.law_facts.specs.History.{History};
-ghost use Rattle.law_starts.specs.Starts.{StartFindsReady, StartsStand};
+ghost use Rattle.law_starts.specs.Starts.{LiveAtInit, StartFindsReady, StartsStand};
 
 /// Where all facts and those of a start hold of a world, and nothing on its way is strange to its host, those of a start hold of the world that any case
 /// leads to.
@@ -18,18 +18,6 @@ pub fn starts_are_kept()
 /// The facts of a start hold of the first world of any setting.
 pub fn starts_stand_at_first()
     ensures { (s : Setting) → StartsStand (first_world s) }
-{}
-
-/// Where all facts hold of a world and nothing on its way is strange to its host, RESET_ADAPTER is set in the world that any case leads to exactly where
-/// the controller is RESET by HostDiagnostic.
-pub fn adapter_bit_is_kept()
-    ensures { (w : World) (h : History) (c : Case) → Facts w h → NothingIsStrange w → AdapterBit (happens w c) }
-{}
-
-/// Where all facts and those of a start hold of a world, and nothing on its way is strange to its host, a reset's machine stands and reads as it should
-/// in the world that any case leads to.
-pub fn reset_steps_are_kept()
-    ensures { (w : World) (h : History) (c : Case) → Facts w h → NothingIsStrange w → StartsStand w → ResetSteps (happens w c) }
 {}
 
 /// Where the facts of a start hold of a world whose tables have their lengths, a controller that is OPERATIONAL has as many vectors as its host has reply
@@ -48,4 +36,10 @@ pub fn doors_stay_sound()
 /// that any case leads to.
 pub fn starts_find_ready()
     ensures { (w : World) (h : History) (c : Case) → Facts w h → NothingIsStrange w → StartsStand w → StartFindsReady (happens w c) }
+{}
+
+/// Where all facts and those of a start hold of a world, and nothing on its way is strange to its host, in the world that any case leads to a start's
+/// machine that finds the controller OPERATIONAL is at IOC Init.
+pub fn starts_come_up_by_init()
+    ensures { (w : World) (h : History) (c : Case) → Facts w h → NothingIsStrange w → StartsStand w → LiveAtInit (happens w c) }
 {}

@@ -48,7 +48,7 @@ use Rattle.law_clock.proofs.PhaseKept.{asked_now, asked_phase, high_words, level
 use Rattle.law_doors.proofs.Whole.{whole_kept}
 use Rattle.law_starts.proofs.Answering.{answer_leaves}
 use Rattle.law_starts.proofs.HostAtDoor as at
-use Rattle.law_starts.proofs.HostAtDoor.{Asked, AtDoor, Beginning, Begins, Drops, FactsNext, Free, FromOff, GivesUp, HasValue, InitNext, Keeps, Late, Looked, Marked, Next, NextShake, Opened, PortFactsNext, Readied, Renewed, Turns, base_begun, begins_is}
+use Rattle.law_starts.proofs.HostAtDoor.{Asked, AtDoor, Beginning, Begins, Drops, FactsNext, Free, FromOff, GivesUp, HasValue, InitNext, Keeps, Late, Looked, Marked, Next, NextShake, Opened, PortFactsNext, Readied, Renewed, Turns, base_begun, begins_is, contrary}
 use Rattle.law_starts.proofs.Resetting.{over_linked, reset_write, sent_stage}
 
 module _ (w : World) (h : History) (b : Before w h) where
@@ -64,10 +64,6 @@ module _ (w : World) (h : History) (b : Before w h) where
 
   abbrev OnHost : Host → Type 0
   OnHost x = Of x.mode x.asked x.stage w.ioc
-
-  contrary : {T : Type 0} (c : Bool) → c ≡ false → c ≡ true → T
-  contrary true e f = absurd (cc)
-  contrary false e f = absurd (cc)
 
   by_false : (c : Bool) → (c ≡ true → ⊥) → c ≡ false
   by_false true n = absurd (n refl)

@@ -34,9 +34,9 @@ use Rattle.law_moves.proofs.Counted.{fewer_pass, filtered, how_many-cons, how_ma
 use Rattle.law_moves.proofs.Phases.{and_false, not_begun, phased_of}
 use Rattle.law_clock.specs.Premises.{Before}
 use Rattle.law_clock.proofs.PhaseKept.{level_phase}
-use Rattle.law_starts.proofs.HostAtDoor.{Asked, Beginning, Diagnostic, FactsNext, Free, FromOff, InitNext, Late, Marked, MessageUnit, Next, NextShake, PortFactsNext, Renewed, base_begun, begins_is, is_plain}
-use Rattle.law_starts.proofs.Keys.{Keys, adapter_stays, keys_after, keys_ahead, keys_append, keys_of, keys_quiet, unlocks_all}
-use Rattle.law_starts.proofs.ResetTurns.{keys_turn, unit_turn}
+use Rattle.law_starts.proofs.HostAtDoor.{Asked, Beginning, Diagnostic, FactsNext, Free, FromOff, InitNext, Late, Marked, MessageUnit, Next, NextShake, PortFactsNext, Renewed, base_begun, begins_is, is_plain, contrary}
+use Rattle.law_steps.proofs.Keys.{Keys, adapter_stays, keys_after, keys_ahead, keys_append, keys_of, keys_quiet, unlocks_all}
+use Rattle.law_steps.proofs.ResetTurns.{keys_turn, unit_turn}
 
 -- ---- over fields
 
@@ -136,10 +136,6 @@ to_world v q = record { step = λ d x m r a. to_step x (q.step d x m r a); value
     to_value reading.News n p = absurd p
     to_value reading.Word n p = absurd p
     to_value reading.Doorbell n p = absurd p
-
-pub contrary : {T : Type 0} (c : Bool) → c ≡ false → c ≡ true → T
-contrary true e f = absurd (cc)
-contrary false e f = absurd (cc)
 
 pub no_some : {T : Type 0} (d : HostDoor) → None ≡ Some d → T
 no_some d e = absurd (cc)

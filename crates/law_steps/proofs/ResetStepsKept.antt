@@ -52,13 +52,13 @@ use Rattle.law_clock.specs.Premises.{Before}
 use Rattle.law_clock.proofs.PhaseKept.{high_words, normal_words}
 use Rattle.law_doors.proofs.Whole.{whole_kept}
 use Rattle.law_starts.specs.Starts.{StartsStand}
-use Rattle.law_starts.proofs.Coming.{first_before, first_pass, first_put, no_first}
+use Rattle.law_steps.proofs.Coming.{first_before, first_pass, first_put, no_first}
 use Rattle.law_starts.proofs.HostAtDoor as at
-use Rattle.law_starts.proofs.HostAtDoor.{AtDoor}
-use Rattle.law_starts.proofs.Keys.{Keys, keys_after, keys_of, keys_quiet}
-use Rattle.law_starts.proofs.StepsIoc.{answered_keys, as_before, keys_on, not_write, post_no_write, reads, resets_now, return_no_write, same_linked, shook, st, stop_no_write}
-use Rattle.law_starts.proofs.StepsKept.{HoldsOn, StepAt, ValueAt, contrary, here, to_world}
-use Rattle.law_starts.proofs.StepsWorld.{host}
+use Rattle.law_starts.proofs.HostAtDoor.{AtDoor, contrary, post_no_write, return_no_write, stop_no_write}
+use Rattle.law_steps.proofs.Keys.{Keys, keys_after, keys_of, keys_quiet}
+use Rattle.law_steps.proofs.StepsIoc.{answered_keys, as_before, keys_on, not_write, reads, resets_now, same_linked, shook, st}
+use Rattle.law_steps.proofs.StepsKept.{HoldsOn, StepAt, ValueAt, here, to_world}
+use Rattle.law_steps.proofs.StepsWorld.{host}
 
 reply_no_value : (x : Said) → is_reply x ≡ true → is_said_value x ≡ false
 reply_no_value (said.Value v) e = absurd (cc)
@@ -187,7 +187,7 @@ module _ (w : World) (h : History) (b : Before w h) (s : StartsStand w) where
       step_on d reading.Doorbell m q a p = absurd p
 
       value_on : (x : Reading) (v : ℕ) → ValueAt (is_linked_up w) x v → ValueAt (in_begun w && is_ready (Rattle.mpi_doorbell.specs.DoorRegisters.linked_up w.ioc.door).state) x v
-      value_on x v p = Rattle.law_starts.proofs.StepsIoc.value_with (is_linked_up w) (in_begun w && is_ready (Rattle.mpi_doorbell.specs.DoorRegisters.linked_up w.ioc.door).state) x v (λ l. is_linked) p
+      value_on x v p = Rattle.law_steps.proofs.StepsIoc.value_with (is_linked_up w) (in_begun w && is_ready (Rattle.mpi_doorbell.specs.DoorRegisters.linked_up w.ioc.door).state) x v (λ l. is_linked) p
 
   told : (x : Back) (o : Happening Ioc) → News never_out w.ioc x o → OnIoc o.part (down_line w)
   told x o (SpeaksBack l g) = by_words never_out o.part g

@@ -47,11 +47,11 @@ use Rattle.law_clock.proofs.ResetWriteKept.{reset_is_write}
 use Rattle.law_doors.proofs.Ahead.{quiet_ahead}
 use Rattle.law_starts.specs.Starts.{StartsStand}
 use Rattle.law_starts.proofs.Answering.{answer_leaves}
-use Rattle.law_starts.proofs.Coming.{last_said, no_first}
+use Rattle.law_steps.proofs.Coming.{last_said, no_first}
 use Rattle.law_starts.proofs.HostAtDoor as at
-use Rattle.law_starts.proofs.HostAtDoor.{AtDoor}
-use Rattle.law_starts.proofs.Keys.{Keys, keys_after, keys_front, keys_of, keys_pass, keys_quiet, keys_register}
-use Rattle.law_starts.proofs.StepsKept.{HoldsOn, StepAt, ValueAt, contrary, here}
+use Rattle.law_starts.proofs.HostAtDoor.{AtDoor, contrary, read_no_write}
+use Rattle.law_steps.proofs.Keys.{Keys, keys_after, keys_front, keys_of, keys_pass, keys_quiet, keys_register}
+use Rattle.law_steps.proofs.StepsKept.{HoldsOn, StepAt, ValueAt, here}
 
 -- ---- a step and a value, where more is linked
 
@@ -122,18 +122,6 @@ status_reads r = by_bit r.ioc2sys
     by_bit : (c : Bool) → has (bits_if c IOC2SYS_DB_STATUS) SYS2IOC_DB_STATUS ≡ false
     by_bit true = refl
     by_bit false = refl
-
-pub read_no_write : (r reg value : ℕ) → down.Read r ≡ down.Write reg value → ⊥
-read_no_write r reg value e = cc
-
-pub post_no_write : (d : ℕ) (f p : List ℕ) (reg value : ℕ) → down.Post d f p ≡ down.Write reg value → ⊥
-post_no_write d f p reg value e = cc
-
-pub return_no_write : (a i reg value : ℕ) → down.Return a i ≡ down.Write reg value → ⊥
-return_no_write a i reg value e = cc
-
-pub stop_no_write : (reg value : ℕ) → down.Stop ≡ down.Write reg value → ⊥
-stop_no_write reg value e = cc
 
 -- a reset leaves no more values on queue 0
 left_values : (g : ℕ) (up : List (List Said)) → how_many is_said_value (get_or (marked g (map (filter outlives_reset) up)) 0 []) ≤ how_many is_said_value (get_or up 0 [])

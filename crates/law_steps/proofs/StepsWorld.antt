@@ -37,11 +37,11 @@ use Rattle.law_clock.specs.Premises.{Before}
 use Rattle.law_clock.proofs.ResetWriteKept.{reset_is_write}
 use Rattle.law_doors.proofs.StageWorld.{alone}
 use Rattle.law_starts.proofs.HostAtDoor as at
-use Rattle.law_starts.proofs.HostAtDoor.{AtDoor, Beginning, Begins, Drops, GivesUp, HasValue, Keeps, Looked, Opened, Readied, Turns, is_plain, value_comes}
-use Rattle.law_starts.proofs.Keys.{Keys, keys_after, keys_of}
+use Rattle.law_starts.proofs.HostAtDoor.{AtDoor, Beginning, Begins, Drops, GivesUp, HasValue, Keeps, Looked, Opened, Readied, Turns, is_plain, value_comes, contrary}
+use Rattle.law_steps.proofs.Keys.{Keys, keys_after, keys_of}
 use Rattle.law_starts.proofs.Resetting.{TurnAt}
-use Rattle.law_starts.proofs.ResetTurns.{over_locks, over_waits, state_waits, unit_goes, unit_waits, unlocked_turn}
-use Rattle.law_starts.proofs.StepsKept.{HoldsOn, StepAt, StepsHold, and_none, and_true, begun, contrary, counts_line, here, keys_line, line, more, no_resets, no_some, normal, plain_no_write, vacuous, works}
+use Rattle.law_steps.proofs.ResetTurns.{over_locks, over_waits, state_waits, unit_goes, unit_waits, unlocked_turn}
+use Rattle.law_steps.proofs.StepsKept.{HoldsOn, StepAt, StepsHold, and_none, and_true, begun, counts_line, here, keys_line, line, more, no_resets, no_some, normal, plain_no_write, vacuous, works}
 
 module _ (w : World) (h : History) (b : Before w h) where
   k : Clock w h
@@ -83,7 +83,7 @@ module _ (w : World) (h : History) (b : Before w h) where
     stepped : (z : Reading) → is_resetting w.host.mode ≡ true → y ≡ z → StepAt w.host.returning (in_begun w) (is_linked_up w) KA z
     stepped z m e = (here w h b).step d z hv.machine_is m (hv.at ∙ ap door_stage.Awaits e)
 
-    valued : (z : Reading) → is_resetting w.host.mode ≡ true → y ≡ z → Rattle.law_starts.proofs.StepsKept.ValueAt (is_linked_up w) z v
+    valued : (z : Reading) → is_resetting w.host.mode ≡ true → y ≡ z → Rattle.law_steps.proofs.StepsKept.ValueAt (is_linked_up w) z v
     valued z m e = (here w h b).value d z v hv.machine_is m (hv.at ∙ ap door_stage.Awaits e) (value_comes w d y v hv)
 
     unlocked : is_resetting w.host.mode ≡ true → y ≡ reading.Unlocked → Goal
@@ -100,7 +100,7 @@ module _ (w : World) (h : History) (b : Before w h) where
         sent = ap (λ c. w.host.returning && not (is_resetting w.host.mode && c)) resets_so ∙ (ap (λ c. w.host.returning && not (c && true)) m ∙ and_none w.host.returning)
 
         placed : KA.place ≡ 6 → (keys_after KA (down.Write HOST_DIAGNOSTIC (bit_or v DIAG_RESET_ADAPTER) ∷ [])).place ≡ 6
-        placed e = ap (λ (n : Keys). n.place) (Rattle.law_starts.proofs.Keys.keys_front KA HOST_DIAGNOSTIC (bit_or v DIAG_RESET_ADAPTER) [] ∙ Rattle.law_starts.proofs.Keys.keys_none (Rattle.law_starts.proofs.Keys.keys_written KA HOST_DIAGNOSTIC (bit_or v DIAG_RESET_ADAPTER))) ∙ e
+        placed e = ap (λ (n : Keys). n.place) (Rattle.law_steps.proofs.Keys.keys_front KA HOST_DIAGNOSTIC (bit_or v DIAG_RESET_ADAPTER) [] ∙ Rattle.law_steps.proofs.Keys.keys_none (Rattle.law_steps.proofs.Keys.keys_written KA HOST_DIAGNOSTIC (bit_or v DIAG_RESET_ADAPTER))) ∙ e
 
         none_unit : how_many is_unit_write (down.Write HOST_DIAGNOSTIC (bit_or v DIAG_RESET_ADAPTER) ∷ []) ≡ 0
         none_unit = let a = how_many-cons is_unit_write (down.Write HOST_DIAGNOSTIC (bit_or v DIAG_RESET_ADAPTER)) [] in let n = how_many-nil {X = Down} is_unit_write in omega (arith, a, n)
@@ -116,7 +116,7 @@ module _ (w : World) (h : History) (b : Before w h) where
     none_of test = how_many-nil test
 
     keys_still : keys_after KA [] ≡ KA
-    keys_still = Rattle.law_starts.proofs.Keys.keys_none KA
+    keys_still = Rattle.law_steps.proofs.Keys.keys_none KA
 
     over : is_resetting w.host.mode ≡ true → y ≡ reading.ResetOver → (c : Bool) → has v DIAG_RESET_ADAPTER ≡ c → Goal
     over m e true t =
@@ -234,7 +234,7 @@ module _ (w : World) (h : History) (b : Before w h) where
           (λ e. ap (how_many is_unit_write) g ∙ l.diagnostic (sym q.stage_is ∙ e)) (λ e. ap (how_many is_diagnostic_write) g ∙ l.unit (sym q.stage_is ∙ e))
   host x t coming (GivesUp s z m r f) same none =
       subst (λ (q : Host). HoldsOn q w.ioc (w.down ++ q.out) coming) (sym f)
-      (vacuous w h b (resets.gives_up w.host s) coming (λ d q p. no_some d q) (λ l. k.one_reset_write.others_return m) (λ e. within is_unit_write Rattle.law_starts.proofs.StepsKept.unit_within) (λ e. within is_diagnostic_write Rattle.law_starts.proofs.StepsKept.diagnostic_within))
+      (vacuous w h b (resets.gives_up w.host s) coming (λ d q p. no_some d q) (λ l. k.one_reset_write.others_return m) (λ e. within is_unit_write Rattle.law_steps.proofs.StepsKept.unit_within) (λ e. within is_diagnostic_write Rattle.law_steps.proofs.StepsKept.diagnostic_within))
     where
       within : (test : Down → Bool) → ((y : Down) → test y ≡ true → is_reset_item y ≡ true) → how_many test (w.down ++ filter resets.is_no_post w.host.out) ≡ 0
       within test g =

@@ -1,5 +1,0 @@
-use Rattle.law_starts.proofs.StartsKept.{reset_steps_stand}
-use Rattle.law_starts.proofs.laws.reset_steps_are_kept.Goals as goal
-
-pub returns : goal.returns
-returns c = reset_steps_stand

@@ -1,0 +1,9 @@
+pub mod Keys
+pub mod AdapterKept
+pub mod Coming
+pub mod ResetTurns
+pub mod StepsKept
+pub mod StepsWorld
+pub mod StepsIoc
+pub mod ResetStepsKept
+pub mod StepsStand
