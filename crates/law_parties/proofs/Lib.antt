@@ -9,9 +9,6 @@ pub mod Owned
 mod ShortQueues
 pub mod Tallies
 pub mod TallyCases
+pub mod TraceModes
 pub mod TallyReplies
 pub mod TallyResets
-mod TallyCases
-pub mod TraceModes
-mod TallyReplies
-mod TallyResets
