@@ -5,5 +5,4 @@ pub mod Reached
 pub mod Made
 pub mod PlaceLists
 pub mod Asked
-pub mod PlaceLists
 pub mod Turns
