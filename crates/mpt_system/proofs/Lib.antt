@@ -4,3 +4,4 @@ pub mod Queues
 pub mod Reached
 pub mod Made
 pub mod PlaceLists
+pub mod Asked

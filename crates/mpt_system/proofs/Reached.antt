@@ -13,7 +13,7 @@ use Rattle.mpt_system.specs.Reached.{IsReached}
 use Rattle.mpt_system.specs.Steps.{HasStepped, HasTried}
 use Rattle.mpt_system.specs.declared.faults.StepFault.{StepFault}
 use Rattle.mpt_system.specs.declared.faults.StepFault.TheVariants as fault
-use Rattle.mpt_system.specs.Whole.{Halted, Happened, Stays, Whole, written}
+use Rattle.mpt_system.specs.Whole.{Halted, Happened, HasDone, Stays, Whole, written}
 
 -- one case more
 run-one : (w : World) (cs : List Case) (c : Case) → run w (cs ++ c ∷ []) ≡ happens (run w cs) c
@@ -89,3 +89,8 @@ reached_stepped old new choice (Err fault.OutOfMemory) h r =
 -- nothing is pending any more
 pub reached_written : (old new : Whole) → new ≡ written old → IsReached old.world old.entries → IsReached new.world new.entries
 reached_written old new e r = subst (λ x. IsReached x.world x.entries) (sym e) r
+
+pub reached_done : {A E : Type 0} (old new : Whole) (c : Case) → IsCase c → (result : Result A E) → HasDone old (case_of old.world c) result new
+    → IsReached old.world old.entries → IsReached new.world new.entries
+reached_done old new c allowed (Ok done) h r = subst (λ x. IsReached x.world x.entries) (sym h) (reached_next old.world old.entries c allowed r)
+reached_done old new c allowed (Err error) h r = reached_halted old (case_of old.world c) new h r (reached_next old.world old.entries c allowed r)

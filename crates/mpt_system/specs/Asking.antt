@@ -1,5 +1,6 @@
 -- An input, as it is asked of the host, and the entry of its refusal.
-use Rattle.std.specs.Prelude.{ℕ, [], Option, None, Result}
+use Rattle.std.specs.Prelude.{◌≡◌, ℕ, ◌++◌, [], Option, None, Result, Ok, Err}
+use Rattle.host_core.specs.Driver.{Driver, IsSame}
 use Rattle.mpt_trace.specs.Command.{command_named}
 use Rattle.mpt_trace.specs.declared.entry.Entry.{Entry}
 use Rattle.mpt_trace.specs.declared.entry.Entry.TheVariants as entry
@@ -7,6 +8,8 @@ use Rattle.mpt_trace.specs.declared.input.Input.{Input}
 use Rattle.mpt_trace.specs.declared.input.Input.TheVariants as input
 use Rattle.mpt_trace.specs.declared.refusal.Refusal.{Refusal}
 use Rattle.mpt_trace.specs.declared.refusal.RefusedCall.TheVariants as call
+use Rattle.mpt_rules.specs.Fabric.Calls.{PlugRefusal, fabric_plugs, fabric_unplugs}
+use Rattle.mpt_rules.specs.Fabric.Parts.{Fabric}
 use Rattle.mpt_rules.specs.Host.Parts.{Host}
 use Rattle.mpt_rules.specs.Host.Takes.{diag_resets, host_aborts, host_resets_target, host_submits, starts, unit_resets}
 use Rattle.mpt_rules.specs.Outcome.{Called}
@@ -38,6 +41,17 @@ host_asked host input.Reset = diag_resets host
 host_asked host input.UnitReset = unit_resets host
 host_asked host (input.Plug address expander phy) = record { part = host; told = []; answer = None }
 host_asked host (input.Unplug address) = record { part = host; told = []; answer = None }
+
+-- what the fabric does with an input, and the cause where it refuses
+abbrev pub fabric_asked : Fabric → Input → Called Fabric (Option PlugRefusal)
+fabric_asked fabric (input.Plug address expander phy) = fabric_plugs fabric address expander phy
+fabric_asked fabric (input.Unplug address) = fabric_unplugs fabric address
+fabric_asked fabric _ = record { part = fabric; told = []; answer = None }
+
+-- the host was asked: it answered this cause, or none, and told this; or nothing changed
+abbrev pub HasAsked : {E : Type 0} → Driver → Called Host (Option Refusal) → Result (Option Refusal) E → Driver → Type 0
+HasAsked old called (Ok cause) new = (cause ≡ called.answer) × (new.host ≡ called.part) × (new.told ≡ old.told ++ called.told)
+HasAsked old called (Err error) new = IsSame old new
 
 -- the entry of an input that is refused
 abbrev pub refusal_entry : Input → Refusal → Entry

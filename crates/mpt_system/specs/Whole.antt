@@ -1,5 +1,5 @@
 -- The whole: the world, all that was told so far, and what of it isn't in the trace yet.
-use Rattle.std.specs.Prelude.{◌≡◌, ◌++◌, ◌⊎◌, List, []}
+use Rattle.std.specs.Prelude.{◌≡◌, ◌++◌, ◌⊎◌, List, [], Result, Ok, Err}
 use Rattle.mpt_trace.specs.declared.entry.Entry.{Entry}
 use Rattle.mpt_rules.specs.Outcome.{Happening}
 use Rattle.mpt_rules.specs.World.State.{World}
@@ -32,3 +32,8 @@ pub record Happened (old : Whole) (outcome : Happening World) (new : Whole) : Ty
 -- memory was wanting: nothing happened, or all of this did
 abbrev pub Halted : Whole → Happening World → Whole → Type 0
 Halted old outcome new = Stays old new ⊎ Happened old outcome new
+
+-- what was to happen has, or memory was wanting
+abbrev pub HasDone : {A E : Type 0} → Whole → Happening World → Result A E → Whole → Type 0
+HasDone old outcome (Ok done) new = new ≡ after old outcome
+HasDone old outcome (Err error) new = Halted old outcome new

@@ -7,6 +7,7 @@
 #![tactic(auto)]
 
 mod faults;
+mod inputs;
 mod making;
 mod parties;
 mod place;
@@ -15,6 +16,7 @@ mod places;
 mod places_tests;
 mod puts;
 mod queries;
+mod refusals;
 mod stepping;
 mod system;
 mod takes;
