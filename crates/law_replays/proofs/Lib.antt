@@ -1,4 +1,4 @@
 mod Limits
 mod OfCases
 mod Summaries
-mod Turns
+pub mod Turns

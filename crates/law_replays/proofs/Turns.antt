@@ -113,7 +113,7 @@ module _ (w : World) where
   tried_choice None = refl
   tried_choice (Some c) = if_moved (moves w c) (moved c)
 
-  tried : (t : Try) → queues_of (tries w t).part ≡ queues_of w
+  pub tried : (t : Try) → queues_of (tries w t).part ≡ queues_of w
   tried t = tried_choice (choice_of w t)
 
   chosen : (c : Choice) → queues_of (happens w (Chosen c)) ≡ queues_of w
@@ -129,12 +129,12 @@ module _ (w : World) where
   told (input.Plug address expander phy) = refl
   told (input.Unplug address) = refl
 
-followed : (o : Happening World) (ts : List Try) → queues_of (followed_by o ts).part ≡ queues_of o.part
+pub followed : (o : Happening World) (ts : List Try) → queues_of (followed_by o ts).part ≡ queues_of o.part
 unfolding followed_by
 followed o [] = refl
 followed o (t ∷ ts) = followed (tries o.part t) ts ∙ tried o.part t
 
-rounded : (w : World) → queues_of (round w).part ≡ queues_of w
+pub rounded : (w : World) → queues_of (round w).part ≡ queues_of w
 rounded w = followed (nothing w) (tries_of_round (queues_of w))
 
 drained_with : (fuel : ℕ) (w : World) → queues_of (drain_with fuel w).part ≡ queues_of w
@@ -161,7 +161,7 @@ carried_out w Drained = drained_with (weight w) w
 
 -- ---- turns, one after the other
 
-does_turns-append : (w : World) (ts us : List LineTurn) → does_turns w (ts ++ us) ≡ behind (does_turns w ts).entries (does_turns (does_turns w ts).part us)
+pub does_turns-append : (w : World) (ts us : List LineTurn) → does_turns w (ts ++ us) ≡ behind (does_turns w ts).entries (does_turns (does_turns w ts).part us)
 unfolding does_turns
 does_turns-append w [] us = refl
 does_turns-append w (t ∷ ts) us =
@@ -174,12 +174,12 @@ unfolding steps does_turns
 steps_turned zero c w = refl
 steps_turned (suc more) c w = ap (behind (case_of w (Chosen c)).entries) (steps_turned more c (happens w (Chosen c)))
 
-tries_turned : (o : Happening World) (ts : List Try) → followed_by o ts ≡ behind o.entries (does_turns o.part (map Tries ts))
+pub tries_turned : (o : Happening World) (ts : List Try) → followed_by o ts ≡ behind o.entries (does_turns o.part (map Tries ts))
 unfolding followed_by does_turns
 tries_turned o [] = ap (λ es. record { part = o.part; entries = es }) (sym (append-nil o.entries))
 tries_turned o (t ∷ ts) = ap (behind o.entries) (tries_turned (tries o.part t) ts)
 
-round_turned : (q : ℕ) (w : World) → queues_of w ≡ q → round w ≡ does_turns w (map Tries (tries_of_round q))
+pub round_turned : (q : ℕ) (w : World) → queues_of w ≡ q → round w ≡ does_turns w (map Tries (tries_of_round q))
 round_turned q w e = tries_turned (nothing w) (tries_of_round (queues_of w)) ∙ ap (λ n. does_turns w (map Tries (tries_of_round n))) e
 
 -- a round, and what a drain does behind it
@@ -191,7 +191,7 @@ round_more q fuel w e more =
     ∙ (ap (λ (o : Happening World). behind o.entries (does_turns o.part (rounds q (rounds_with fuel (round w).part)))) (round_turned q w e)
     ∙ sym (does_turns-append w (map Tries (tries_of_round q)) (rounds q (rounds_with fuel (round w).part))))
 
-drain_turned : (q fuel : ℕ) (w : World) → queues_of w ≡ q → drain_with fuel w ≡ does_turns w (rounds q (rounds_with fuel w))
+pub drain_turned : (q fuel : ℕ) (w : World) → queues_of w ≡ q → drain_with fuel w ≡ does_turns w (rounds q (rounds_with fuel w))
 unfolding drain_with rounds_with does_turns
 drain_turned q zero w e = refl
 drain_turned q (suc fuel) w e = by_quiet (world_quiet w) (round_more q fuel w e (drain_turned q fuel (round w).part (rounded w ∙ e)))

@@ -5,3 +5,4 @@ pub mod Reached
 pub mod Made
 pub mod PlaceLists
 pub mod Asked
+pub mod Turns

@@ -5,5 +5,6 @@ pub mod Reached
 pub mod Making
 pub mod Steps
 pub mod Asking
+pub mod Turns
 pub mod Places
 pub mod Weight

@@ -17,6 +17,7 @@ mod places_tests;
 mod puts;
 mod queries;
 mod refusals;
+mod rounds;
 mod stepping;
 mod system;
 mod takes;
