@@ -28,6 +28,8 @@ mod resets;
 mod sending;
 mod steps;
 mod tasks;
+#[cfg(test)]
+mod tests;
 
 pub use ioc::Ioc;
 pub use moves::{IocMove, IocSaid, IocTalk};
