@@ -1,4 +1,7 @@
 pub mod Commands
 pub mod HostAnswers
 pub mod HostResults
+pub mod IocFrames
+pub mod IocReplies
+pub mod Rooms
 mod Strange

@@ -1,3 +1,4 @@
 -- What the laws say.
 pub mod HostEnds
 pub mod HostResults
+pub mod IocEnds

@@ -1,6 +1,7 @@
 //! The laws.
 ghost use Rattle.law_ends.specs.HostEnds.{HostsAnswerOnce, StrangeChangesNothing};
 ghost use Rattle.law_ends.specs.HostResults.{ResultsAreOfReplies};
+ghost use Rattle.law_ends.specs.IocEnds.{FramesAreReturned, RepliesAreForPosts};
 
 /// Over any list of moves of a new host: no number is accepted twice or answered twice, and each that is answered was
 /// accepted before.
@@ -17,4 +18,16 @@ pub fn results_are_of_replies()
 /// A move that brings a strange item changes nothing: the talk without what it says is that of the list without it.
 pub fn strange_changes_nothing()
     ensures { StrangeChangesNothing }
+{}
+
+/// Over any list of moves of a controller that was just made or reset: it replies to an identifier at most as often as it
+/// was posted.
+pub fn replies_are_for_posts()
+    ensures { RepliesAreForPosts }
+{}
+
+/// Over any list of moves of a controller that was just made or reset: it uses a reply frame at most as often as it was
+/// returned.
+pub fn frames_are_returned()
+    ensures { FramesAreReturned }
 {}

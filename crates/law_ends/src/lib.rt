@@ -4,4 +4,7 @@
 
 mod laws;
 
-pub use laws::{hosts_answer_once, results_are_of_replies, strange_changes_nothing};
+pub use laws::{
+    frames_are_returned, hosts_answer_once, replies_are_for_posts, results_are_of_replies,
+    strange_changes_nothing,
+};
