@@ -14,3 +14,4 @@ pub mod QueuesKept
 pub mod QueuesWorld
 pub mod LookKept
 pub mod LiveKept
+pub mod OffKept

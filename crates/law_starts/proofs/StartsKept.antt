@@ -11,10 +11,11 @@ use Rattle.law_facts.specs.DoorAhead.{DoorIsSound, InitQueues, written_ahead}
 use Rattle.mpt_rules.specs.World.Counts.{how_many}
 use Rattle.law_clock.specs.Premises.{Before}
 use Rattle.law_doors.proofs.DoorsKept.{resets_heeded}
-use Rattle.law_starts.specs.Starts.{LiveAtInit, StartFindsReady, StartsStand}
+use Rattle.law_starts.specs.Starts.{LiveAtInit, OffIsFresh, StartFindsReady, StartsStand}
 use Rattle.law_starts.proofs.HoldsKept.{holds_kept}
 use Rattle.law_starts.proofs.KnowsKept.{knows_kept}
 use Rattle.law_starts.proofs.LiveKept.{live_kept}
+use Rattle.law_starts.proofs.OffKept.{off_kept}
 use Rattle.law_starts.proofs.LookKept.{look_kept}
 use Rattle.law_starts.proofs.QueuesWorld.{queues_kept, whole_ahead}
 use Rattle.law_starts.proofs.WrittenKept.{written_kept}
@@ -39,6 +40,9 @@ look_stands w h c f plain s = look_kept w h (before w h f plain) s.nothing_is_wr
 
 pub live_stands : (w : World) (h : History) (c : Case) → Facts w h → NothingIsStrange w → StartsStand w → LiveAtInit (happens w c)
 live_stands w h c f plain s = live_kept w h (before w h f plain) s c
+
+pub off_stands : (w : World) (h : History) (c : Case) → Facts w h → NothingIsStrange w → OffIsFresh (happens w c)
+off_stands w h c f plain = off_kept w h (before w h f plain) c
 
 pub all_queues : (w : World) → StartsStand w → Sizes w → InitQueues w
 all_queues w s z l = s.queues_asked.now l ∙ z.lanes

@@ -6,6 +6,7 @@ use Rattle.mpi_doorbell.specs.declared.registers.TheConstants.{DIAG_HOLD_IOC_RES
 use Rattle.mpi_doorbell.specs.declared.stage.Reading.TheVariants as reading
 use Rattle.mpi_doorbell.specs.declared.stage.Stage.TheVariants as door_stage
 use Rattle.mpi_doorbell.specs.declared.state.IocState.TheVariants.{Ready}
+use Rattle.mpt_trace.specs.declared.host_state.HostState.TheVariants as state
 use Rattle.mpt_trace.specs.declared.item.Down.{Down}
 use Rattle.mpt_trace.specs.declared.item.Down.TheVariants as down
 use Rattle.mpt_rules.specs.declared.said.Said.{Said}
@@ -17,7 +18,7 @@ use Rattle.mpt_rules.specs.World.Lines.{down_line, up_line}
 use Rattle.mpt_rules.specs.World.State.{World, queues_of}
 use Rattle.mpt_rules.specs.Ioc.Tables.{is_operational}
 use Rattle.law_facts.specs.Clock.{in_reset, is_live}
-use Rattle.law_facts.specs.DoorAhead.{door_ahead, written_ahead}
+use Rattle.law_facts.specs.DoorAhead.{IsFresh, door_ahead, written_ahead}
 
 -- ---- nothing holds the reset
 
@@ -55,6 +56,10 @@ StartFindsReady w = w.host.stage ≡ stage.Start → w.ioc.door.state ≡ Ready
 -- and its machine is at IOC Init once the controller is OPERATIONAL
 abbrev pub LiveAtInit : World → Type 0
 LiveAtInit w = is_starting w.host.mode ≡ true → is_some w.host.machine ≡ true → is_live w ≡ true → w.host.stage ≡ stage.Init
+
+-- a host that wasn't started has nothing
+abbrev pub OffIsFresh : World → Type 0
+OffIsFresh w = w.host.mode ≡ state.Off → IsFresh w
 
 -- ---- a controller that isn't OPERATIONAL knows no host
 

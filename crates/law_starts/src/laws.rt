@@ -7,7 +7,7 @@ ghost use Rattle.law_facts.specs.DoorAhead.{DoorIsSound, InitQueues};
 ghost use Rattle.law_facts.specs.Facts.{Facts};
 ghost use Rattle.law_facts.specs.Flights.{Sizes};
 ghost use Rattle.law_facts.specs.History.{History};
-ghost use Rattle.law_starts.specs.Starts.{LiveAtInit, StartFindsReady, StartsStand};
+ghost use Rattle.law_starts.specs.Starts.{LiveAtInit, OffIsFresh, StartFindsReady, StartsStand};
 
 /// Where all facts and those of a start hold of a world, and nothing on its way is strange to its host, those of a start hold of the world that any case
 /// leads to.
@@ -42,4 +42,9 @@ pub fn starts_find_ready()
 /// machine that finds the controller OPERATIONAL is at IOC Init.
 pub fn starts_come_up_by_init()
     ensures { (w : World) (h : History) (c : Case) → Facts w h → NothingIsStrange w → StartsStand w → LiveAtInit (happens w c) }
+{}
+
+/// Where all facts hold of a world and nothing on its way is strange to its host, a host that wasn't started has nothing in the world that any case leads to.
+pub fn off_hosts_have_nothing()
+    ensures { (w : World) (h : History) (c : Case) → Facts w h → NothingIsStrange w → OffIsFresh (happens w c) }
 {}

@@ -5,6 +5,6 @@
 mod laws;
 
 pub use laws::{
-    doors_stay_sound, init_asks_for_all_queues, starts_are_kept, starts_come_up_by_init,
-    starts_find_ready, starts_stand_at_first,
+    doors_stay_sound, init_asks_for_all_queues, off_hosts_have_nothing, starts_are_kept,
+    starts_come_up_by_init, starts_find_ready, starts_stand_at_first,
 };
