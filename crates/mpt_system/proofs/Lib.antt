@@ -6,3 +6,4 @@ pub mod Made
 pub mod PlaceLists
 pub mod Asked
 pub mod Turns
+pub mod RoundsMade

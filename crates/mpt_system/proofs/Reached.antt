@@ -1,5 +1,5 @@
 -- Each case leads from a whole that is reached to one that is.
-use Rattle.std.proofs.Common.{◌≡◌, Bool, List, [], ◌∷◌, ◌++◌, Option, Some, None, Result, Ok, Err, inl, inr, refl, sym, ap, ◌∙◌, subst, append-nil, append_assoc}
+use Rattle.std.proofs.Common.{◌≡◌, Bool, List, [], ◌∷◌, ◌++◌, Option, Some, None, Result, Ok, Err, OnErr, OnOk, inl, inr, refl, sym, ap, ◌∙◌, subst, append-nil, append_assoc}
 use Rattle.std.proofs.lemmas.List.Elements.{All-append, All-cons, All-nil}
 use Rattle.mpt_trace.specs.declared.choice.Choice.{Choice}
 use Rattle.mpt_trace.specs.declared.entry.Entry.{Entry}
@@ -94,3 +94,8 @@ pub reached_done : {A E : Type 0} (old new : Whole) (c : Case) → IsCase c → 
     → IsReached old.world old.entries → IsReached new.world new.entries
 reached_done old new c allowed (Ok done) h r = subst (λ x. IsReached x.world x.entries) (sym h) (reached_next old.world old.entries c allowed r)
 reached_done old new c allowed (Err error) h r = reached_halted old (case_of old.world c) new h r (reached_next old.world old.entries c allowed r)
+
+pub reached_either : {A E : Type 0} (old new : Whole) (result : Result A E) → OnOk result (new ≡ written old) → OnErr result (Stays old new)
+    → IsReached old.world old.entries → IsReached new.world new.entries
+reached_either old new (Ok done) ok err r = reached_written old new ok r
+reached_either old new (Err error) ok err r = reached_same old new err r

@@ -1,5 +1,5 @@
 -- Turns that follow each other.
-use Rattle.std.proofs.Common.{◌≡◌, ℕ, zero, suc, ◌+◌, ◌-◌, ◌<◌, ◌≤◌, Bool, List, [], ◌∷◌, ◌++◌, map, length, take, drop, get_or, Option, Some, None, Result, Ok, Err, inl, inr, refl, sym, ap, ◌∙◌, subst, append-nil, append_assoc, arith, add-one, add-zero, zero-add}
+use Rattle.std.proofs.Common.{◌≡◌, ℕ, zero, suc, ◌+◌, ◌-◌, ◌<◌, ◌≤◌, List, [], ◌∷◌, ◌++◌, map, length, take, drop, get_or, Result, Ok, Err, inl, inr, refl, sym, ap, ◌∙◌, subst, append-nil, append_assoc, arith, add-one, add-zero, zero-add}
 use Rattle.std.specs.List.{range_with_len}
 use Rattle.std.proofs.lemmas.List.FromFn.{map-range_with_len_more}
 use Rattle.std.specs.Prelude.{IsErr}
@@ -7,16 +7,13 @@ use Rattle.mpt_trace.specs.declared.choice.Choice.{Choice}
 use Rattle.mpt_trace.specs.declared.entry.Entry.{Entry}
 use Rattle.mpt_trace.specs.declared.choice.Choice.TheVariants as choice
 use Rattle.mpt_wire.specs.Fits.Lines.{Chooses, LineTurn, RunsOldest, Tries, Try, above, tries_of_round}
-use Rattle.mpt_rules.specs.Fabric.Calls.{oldest}
 use Rattle.mpt_rules.specs.Outcome.{Happening}
-use Rattle.mpt_rules.specs.World.Drain.{behind, moves_if}
-use Rattle.mpt_rules.specs.World.Moves.{moves}
+use Rattle.mpt_rules.specs.World.Drain.{behind}
 use Rattle.mpt_rules.specs.World.State.{World, nothing, queues_of}
 use Rattle.mpt_rules.specs.World.TurnsDone.{does_turn, does_turns}
 use Rattle.law_replays.proofs.Turns.{does_turns-append}
-use Rattle.mpt_system.specs.Steps.{HasTried}
 use Rattle.mpt_system.specs.Turns.{HasTurned, TurnedSoFar, tries_it}
-use Rattle.mpt_system.specs.Whole.{Halted, Happened, Stays, Whole, after, written}
+use Rattle.mpt_system.specs.Whole.{Halted, Stays, Whole, after}
 
 -- ---- what happens after what
 
@@ -24,7 +21,7 @@ use Rattle.mpt_system.specs.Whole.{Halted, Happened, Stays, Whole, after, writte
 abbrev with_entries : World → List Entry → Whole
 with_entries w es = record { world = w; entries = es; pending = [] }
 
-after_behind : (s : Whole) (o p : Happening World) → after s (behind o.entries p) ≡ after (after s o) p
+pub after_behind : (s : Whole) (o p : Happening World) → after s (behind o.entries p) ≡ after (after s o) p
 after_behind s o p = ap (with_entries p.part) (sym (append_assoc s.entries o.entries p.entries))
 
 -- nothing happens
@@ -167,7 +164,7 @@ module _ (f : ℕ → LineTurn) (s middle new : Whole) (i : ℕ) (least : 1 ≤ 
       let place : 1 + (i - 1) ≡ i = omega arith in
       let rest : List LineTurn = map f (range_with_len (1 + (i - 1) + 1) (q - i - 1)) in
       let parts : below f i ++ f i ∷ rest ≡ map f (above q) =
-        ap (λ k. below f i ++ f k ∷ rest) (sym place) ∙ (sym (range_seam f 1 (i - 1) (q - i - 1)) ∙ ap (λ k. map f (range_with_len 1 k)) size) in
+      ap (λ k. below f i ++ f k ∷ rest) (sym place) ∙ (sym (range_seam f 1 (i - 1) (q - i - 1)) ∙ ap (λ k. map f (range_with_len 1 k)) size) in
       subst (λ ts. TurnedSoFar s ts new) parts (turn_halted s middle new (below f i) (f i) rest done halted)
 
   pub above_all : (q : ℕ) → q ≤ i → i ≤ 1 + (q - 1) → middle ≡ after s (does_turns s.world (map f (above q)))

@@ -6,6 +6,7 @@
 //! the law says of all lists of cases holds of it.
 #![tactic(auto)]
 
+mod draining;
 mod faults;
 mod inputs;
 mod making;

@@ -1,6 +1,6 @@
-use Rattle.std.proofs.Common.{◌≡◌, ℕ, List, [], ◌∷◌, map, length, ap, ◌∙◌}
+use Rattle.std.proofs.Common.{◌≡◌, ℕ, [], ◌∷◌, map, length, ap, ◌∙◌}
 use Rattle.mpt_trace.specs.declared.choice.Choice.TheVariants as choice
-use Rattle.mpt_wire.specs.Fits.Lines.{LineTurn, RunsOldest, Tries}
+use Rattle.mpt_wire.specs.Fits.Lines.{RunsOldest, Tries}
 use Rattle.mpt_rules.specs.World.State.{queues_of}
 use Rattle.mpt_system.specs.Turns.{tries_it}
 use Rattle.mpt_system.specs.Whole.{Whole}

@@ -1,7 +1,5 @@
-use Rattle.std.proofs.Common.{◌≡◌, List, ◌∷◌, ◌++◌, ◌+◌, map, take, drop, length, subst, sym, ap, ◌∙◌, arith}
-use Rattle.std.proofs.Math.Seq.{take-length}
+use Rattle.std.proofs.Common.{◌≡◌, ◌+◌, map, take, drop, subst, sym}
 use Rattle.mpt_rules.specs.World.TurnsDone.{does_turns}
-use Rattle.mpt_wire.specs.Fits.Lines.{LineTurn}
 use Rattle.mpt_system.specs.Turns.{TurnedSoFar, tries_it}
 use Rattle.mpt_system.specs.Whole.{after}
 use Rattle.mpt_system.proofs.Turns.{map_more, map_seam, none_turned, so_far, turn_halted, turn_more}

@@ -2,10 +2,8 @@ use Rattle.std.proofs.Common.{◌≡◌, ℕ, [], ◌∷◌, Option, Some, None,
 use Rattle.std.specs.Option.{option_map}
 use Rattle.mpt_trace.specs.declared.choice.Choice.TheVariants as choice
 use Rattle.mpt_rules.specs.Fabric.Calls.{oldest}
-use Rattle.mpt_rules.specs.Outcome.{Happening}
-use Rattle.mpt_rules.specs.World.Drain.{moves_if, tries_choice}
-use Rattle.mpt_rules.specs.World.Moves.{moves}
-use Rattle.mpt_rules.specs.World.State.{World, nothing}
+use Rattle.mpt_rules.specs.World.Drain.{tries_choice}
+use Rattle.mpt_rules.specs.World.State.{World}
 use Rattle.mpt_rules.specs.World.TurnsDone.{does_turn}
 use Rattle.mpt_wire.specs.Fits.Lines.{RunsOldest, Tries}
 use Rattle.mpt_system.specs.Whole.{Halted, Whole, after}

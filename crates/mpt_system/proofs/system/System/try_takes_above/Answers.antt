@@ -1,4 +1,4 @@
-use Rattle.std.proofs.Common.{◌≡◌, ℕ, map, arith}
+use Rattle.std.proofs.Common.{ℕ, map, arith}
 use Rattle.mpt_trace.specs.declared.choice.Choice.TheVariants as choice
 use Rattle.mpt_wire.specs.Fits.Lines.{above}
 use Rattle.mpt_system.specs.Turns.{tries_it}
