@@ -3,5 +3,6 @@ pub mod HostAnswers
 pub mod HostResults
 pub mod IocFrames
 pub mod IocReplies
+mod IocTasks
 pub mod Rooms
 mod Strange

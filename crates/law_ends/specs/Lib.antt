@@ -2,3 +2,4 @@
 pub mod HostEnds
 pub mod HostResults
 pub mod IocEnds
+pub mod IocTasks

@@ -2,6 +2,7 @@
 ghost use Rattle.law_ends.specs.HostEnds.{HostsAnswerOnce, StrangeChangesNothing};
 ghost use Rattle.law_ends.specs.HostResults.{ResultsAreOfReplies};
 ghost use Rattle.law_ends.specs.IocEnds.{FramesAreReturned, RepliesAreForPosts};
+ghost use Rattle.law_ends.specs.IocTasks.{TasksGoWhereBound};
 
 /// Over any list of moves of a new host: no number is accepted twice or answered twice, and each that is answered was
 /// accepted before.
@@ -30,4 +31,10 @@ pub fn replies_are_for_posts()
 /// returned.
 pub fn frames_are_returned()
     ensures { FramesAreReturned }
+{}
+
+/// Over any list of moves of a new controller: each task that it puts was sent, at an earlier place, to the address to
+/// which its post's handle was bound then.
+pub fn tasks_go_where_bound()
+    ensures { TasksGoWhereBound }
 {}
