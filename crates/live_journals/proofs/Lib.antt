@@ -1,0 +1,5 @@
+mod Cases
+mod Entered
+mod ToldCases
+mod Merged
+pub mod Parties
