@@ -4,5 +4,6 @@ pub mod HostResults
 pub mod IocFrames
 pub mod IocReplies
 mod IocTasks
+mod Recovery
 pub mod Rooms
 mod Strange

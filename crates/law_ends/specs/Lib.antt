@@ -3,3 +3,4 @@ pub mod HostEnds
 pub mod HostResults
 pub mod IocEnds
 pub mod IocTasks
+pub mod Recovery

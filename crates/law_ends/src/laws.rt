@@ -3,6 +3,7 @@ ghost use Rattle.law_ends.specs.HostEnds.{HostsAnswerOnce, StrangeChangesNothing
 ghost use Rattle.law_ends.specs.HostResults.{ResultsAreOfReplies};
 ghost use Rattle.law_ends.specs.IocEnds.{FramesAreReturned, RepliesAreForPosts};
 ghost use Rattle.law_ends.specs.IocTasks.{TasksGoWhereBound};
+ghost use Rattle.law_ends.specs.Recovery.{ControllersComeBack};
 
 /// Over any list of moves of a new host: no number is accepted twice or answered twice, and each that is answered was
 /// accepted before.
@@ -37,4 +38,11 @@ pub fn frames_are_returned()
 /// which its post's handle was bound then.
 pub fn tasks_go_where_bound()
     ensures { TasksGoWhereBound }
+{}
+
+/// Behind any list of moves of a new controller, in FAULT and amid a handshake too: when the host writes the keys and
+/// resets the adapter, the controller puts one link to the fabric; and when that was answered and the host reads the
+/// Doorbell, the last thing that reply queue 0 says is that the controller is READY.
+pub fn controllers_come_back()
+    ensures { ControllersComeBack }
 {}

@@ -5,6 +5,6 @@
 mod laws;
 
 pub use laws::{
-    frames_are_returned, hosts_answer_once, replies_are_for_posts, results_are_of_replies,
-    strange_changes_nothing, tasks_go_where_bound,
+    controllers_come_back, frames_are_returned, hosts_answer_once, replies_are_for_posts,
+    results_are_of_replies, strange_changes_nothing, tasks_go_where_bound,
 };
