@@ -73,7 +73,7 @@ case_first w o rest (OfHost c host ioc is) n = subst (λ (es : List Entry). NoRe
 case_first w o rest (OfIoc c host ioc is) n = subst (λ (es : List Entry). NoRefusal (es ++ rest)) (sym is) (by_other party.Ioc refl (ioc_does w.ioc c).entries rest (ioc_owned w.ioc c) n)
 case_first w o rest (OfFabric c host ioc is) n = subst (λ (es : List Entry). NoRefusal (es ++ rest)) (sym is) (by_other party.Fabric refl (fabric_does w.fabric c).entries rest (fabric_owned w.fabric c) n)
 
-no_refusal : (w : World) (cases : List Case) → NoRefusal (trace w cases)
+pub no_refusal : (w : World) (cases : List Case) → NoRefusal (trace w cases)
 no_refusal w [] = λ c. refl
 no_refusal w (c ∷ cases) = case_first w (case_of w c) (trace (happens w c) cases) (of_party w c) (no_refusal (happens w c) cases)
 

@@ -1,0 +1,7 @@
+mod HeldCases
+mod HeldReplies
+pub mod HeldRequests
+pub mod HeldSlots
+pub mod Holders
+pub mod LeastTaken
+mod PlacesTold
