@@ -1,0 +1,2 @@
+-- What the exports promise to C.
+pub mod Answers

@@ -1,0 +1,12 @@
+-- Bytes for a buffer of C's.
+use Rattle.std.specs.Prelude.{◌≡◌, ℕ, ◌<◌, ◌≤◌, ◌⊎◌, List, ◌++◌, length, drop}
+use Rattle.mpt_c_messages.specs.declared.call_code.CallCode.{CallCode}
+use Rattle.mpt_c_messages.specs.declared.call_code.CallCode.TheVariants as code
+
+-- the bytes stand at the buffer's front with the call's own code, or they are longer than the buffer, which stays;
+-- the length is theirs
+abbrev pub IsPut : List ℕ → CallCode → List ℕ → List ℕ → ℕ → CallCode → Type 0
+IsPut bytes own out out' long answer =
+    (long ≡ length bytes)
+    × (((length bytes ≤ length out) × (out' ≡ bytes ++ drop (length bytes) out) × (answer ≡ own))
+    ⊎ ((length out < length bytes) × (out' ≡ out) × (answer ≡ code.ShortBuffer)))
