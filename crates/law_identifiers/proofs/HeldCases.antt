@@ -1,5 +1,5 @@
 -- Each case of the host keeps the holder of an identifier s of a SCSI IO, whatever the host takes.
-use Rattle.std.proofs.Common.{◌≡◌, ℕ, ◌==◌, ◌≤◌, Bool, true, false, List, [], ◌∷◌, ◌++◌, Option, Some, None, refl, ap, sym, subst, ◌∙◌, arith}
+use Rattle.std.proofs.Common.{◌≡◌, ℕ, ◌==◌, ◌≤◌, Bool, true, false, List, [], ◌∷◌, Option, Some, None, refl, ap, sym, subst, ◌∙◌, arith}
 use Rattle.std.specs.FinMap as finmap
 use Rattle.std.specs.FinSet as finset
 use Rattle.std.proofs.lemmas.Bool.Decides.{nat_tests}
@@ -46,10 +46,10 @@ use Rattle.mpt_rules.specs.World.Moves.{told_of}
 use Rattle.mpt_rules.specs.World.State.{up_lane}
 use Rattle.law_flights.proofs.Least.{least_is}
 use Rattle.law_parties.proofs.HostModes.{NoRefusal}
-use Rattle.law_identifiers.proofs.Holders.{IsSilent, after_accept, after_granted, after_other_accept, after_refused, holder_by, named, new_holder, stays}
+use Rattle.law_identifiers.proofs.Holders.{IsSilent, after_accept, after_granted, after_other_accept, after_refused, holder_by, stays}
 use Rattle.law_identifiers.proofs.HeldSlots.{Holds, asked_reset, begun, free_high, posted, spares}
 use Rattle.law_identifiers.proofs.HeldRequests.{accepts_other, accepts_this, asks_abort}
-use Rattle.law_identifiers.proofs.HeldReplies.{Leads, LeadsTo, silent_before, silently, up_leads}
+use Rattle.law_identifiers.proofs.HeldReplies.{Leads, silent_before, silently, up_leads}
 
 module _ (s : ℕ) (few : s ≤ 256) (o : Option Holder) where
   -- where what comes later doesn't begin with a refusal of the host

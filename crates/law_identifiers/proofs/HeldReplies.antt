@@ -1,5 +1,5 @@
 -- What the host tells of an item that it takes keeps the holder of an identifier s of a SCSI IO.
-use Rattle.std.proofs.Common.{◌≡◌, ℕ, ◌==◌, ◌≤◌, ◌&&◌, Bool, true, false, if◌then◌else◌, List, [], ◌∷◌, ◌++◌, map, filter_map, slice_set, take, Option, Some, None, refl, ap, sym, subst, ◌∙◌, arith}
+use Rattle.std.proofs.Common.{◌≡◌, ℕ, ◌≤◌, ◌&&◌, Bool, true, false, if◌then◌else◌, List, [], ◌∷◌, ◌++◌, map, filter_map, slice_set, take, Option, Some, None, refl, ap, sym, subst, ◌∙◌, arith}
 use Rattle.std.specs.FinMap as finmap
 use Rattle.mpi_doorbell.specs.HostDoor.{HostDoor}
 use Rattle.mpi_doorbell.specs.declared.step.DoorStep.{DoorStep}
@@ -38,7 +38,7 @@ use Rattle.mpt_rules.specs.Host.Takes.{hears_up}
 use Rattle.mpt_rules.specs.Host.Values as values
 use Rattle.mpt_rules.specs.Outcome.{Happening}
 use Rattle.law_identifiers.proofs.Holders.{IsSilent, after_abort, after_answer, after_reset, closed, ended, holder_by, is_command, stays, unnamed}
-use Rattle.law_identifiers.proofs.HeldSlots.{Holds, IsBeside, Spares, all_changed, asked_internal, beside_open, begun_handshake, begun_late, begun_messages, freed, freed_high, freed_internal, spares, started_by, turned}
+use Rattle.law_identifiers.proofs.HeldSlots.{Holds, IsBeside, all_changed, asked_internal, beside_open, begun_handshake, begun_late, begun_messages, freed, freed_high, freed_internal, spares, started_by, turned}
 use Rattle.law_identifiers.proofs.HeldRequests.{answered, ended_open, ended_parked, ending_beside, parked_beside, renewed}
 
 module _ (s : ℕ) (few : s ≤ 256) where

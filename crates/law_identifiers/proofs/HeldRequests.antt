@@ -1,5 +1,5 @@
 -- What a submission, an abort and their ends make of the holder of an identifier s of a SCSI IO.
-use Rattle.std.proofs.Common.{◌≡◌, ℕ, zero, suc, ◌-◌, ◌<◌, ◌≤◌, ◌==◌, ◌&&◌, ◌||◌, not, Bool, true, false, cond, if◌then◌else◌, List, [], ◌∷◌, get_or, length, replicate, set, Option, Some, None, is_some, refl, ap, sym, subst, ◌∙◌, arith, length-set}
+use Rattle.std.proofs.Common.{◌≡◌, ℕ, zero, suc, ◌-◌, ◌≤◌, ◌==◌, ◌&&◌, ◌||◌, not, Bool, true, false, cond, List, get_or, replicate, set, Option, Some, None, is_some, refl, ap, sym, subst, ◌∙◌, arith, length-set}
 use Rattle.std.specs.FinMap as finmap
 use Rattle.std.specs.FinSet as finset
 use Rattle.std.specs.Ordering.{nat_cmp}
@@ -10,11 +10,11 @@ use Rattle.smid_pool.specs.Pool.{Free, Open, Parked, Slot, all_free, least_free,
 use Rattle.smid_pool.specs.declared.class.Class.TheVariants as class
 use Rattle.mpt_rules.specs.declared.request.Request.{Request}
 use Rattle.mpt_rules.specs.declared.request.Request.TheVariants as request
-use Rattle.mpt_rules.specs.Host.Parts.{Cmd, Host}
+use Rattle.mpt_rules.specs.Host.Parts.{Cmd}
 use Rattle.mpt_rules.specs.Host.Replies as replies
 use Rattle.law_flights.proofs.HostHolds.{class_within, in_table, slot_of-set}
 use Rattle.law_flights.proofs.Least.{least_is}
-use Rattle.law_identifiers.proofs.Holders.{and_false, and_true, closed, get_inserted, get_removed, contains_inserted, ended, is_command, is_of_number, is_plain, is_under, named, new_holder, number_in, of_command, only_command, slot_as, slot_by, under_one, under_some, unnamed}
+use Rattle.law_identifiers.proofs.Holders.{and_false, and_true, closed, get_inserted, get_removed, contains_inserted, ended, is_command, is_of_number, is_under, named, new_holder, number_in, of_command, only_command, slot_as, slot_by, under_one, under_some, unnamed}
 use Rattle.law_identifiers.proofs.HeldSlots.{Aborts, Cmds, IsBeside, Keeps, Numbers, Stands}
 
 -- ---- the holder alone

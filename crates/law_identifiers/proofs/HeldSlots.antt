@@ -1,12 +1,10 @@
 -- The host's tables keep what the rule of least identifiers holds of an identifier s of a SCSI IO: each move of the host.
-use Rattle.std.proofs.Common.{◌≡◌, ℕ, zero, suc, ◌-◌, ◌<◌, ◌≤◌, ◌==◌, ◌&&◌, ◌||◌, not, Bool, true, false, cond, if◌then◌else◌, List, [], ◌∷◌, length, replicate, set, Option, Some, None, is_some, refl, ap, sym, subst, ◌∙◌, arith, length-set}
+use Rattle.std.proofs.Common.{◌≡◌, ℕ, zero, suc, ◌-◌, ◌<◌, ◌≤◌, ◌==◌, Bool, true, false, cond, if◌then◌else◌, List, [], ◌∷◌, length, set, Option, Some, None, is_some, refl, ap, sym, ◌∙◌, arith, length-set}
 use Rattle.std.specs.FinMap as finmap
 use Rattle.std.specs.FinSet as finset
 use Rattle.std.specs.List.{fold, range_with_len}
 use Rattle.std.specs.Ordering.{nat_cmp}
 use Rattle.std.proofs.lemmas.Bool.Decides.{nat_tests}
-use Rattle.std.proofs.lemmas.List.{length-replicate}
-use Rattle.scsi_disk.specs.declared.command.Command.{Command}
 use Rattle.mpi_doorbell.specs.HostDoor.{HostDoor}
 use Rattle.mpi_doorbell.specs.HostSteps.{diagnostic_reset, handshake_of_message, look_at_doorbell, unit_reset}
 use Rattle.mpi_doorbell.specs.declared.registers.TheConstants.{IOC_STATE_FAULT, IOC_STATE_OPERATIONAL, IOC_STATE_READY}
@@ -16,32 +14,28 @@ use Rattle.mpt_messages.specs.FrameBytes.{message_bytes}
 use Rattle.mpt_messages.specs.HostFrames.{host_message}
 use Rattle.mpt_messages.specs.declared.host_ask.HostAsk.{HostAsk}
 use Rattle.mpt_messages.specs.declared.host_ask.HostAsk.TheVariants as ask
-use Rattle.mpt_trace.specs.declared.outcome.Outcome.{Outcome as Ending}
 use Rattle.mpt_wire.specs.Messages.Fields.{Change, target_added, target_not_responding}
 use Rattle.mpt_wire.specs.Queues.LeastFree.{Holder}
 use Rattle.removal.specs.Phases.{after_added, after_gone}
 use Rattle.removal.specs.Handles.{phase_at, with_phase}
 use Rattle.removal.specs.declared.phase.Phase.{Phase}
 use Rattle.removal.specs.declared.phase.Phase.TheVariants as phase
-use Rattle.smid_pool.specs.Class.{IsIn}
-use Rattle.smid_pool.specs.Pool.{Free, Open, Parked, Slot, all_free, least_free, slot_of}
+use Rattle.smid_pool.specs.Pool.{Free, Open, Slot, least_free, slot_of}
 use Rattle.smid_pool.specs.declared.class.Class.TheVariants as class
 use Rattle.mpt_rules.specs.declared.request.Request.{Request}
 use Rattle.mpt_rules.specs.declared.request.Request.TheVariants as request
 use Rattle.mpt_rules.specs.declared.stage.Stage.{Stage}
 use Rattle.mpt_rules.specs.declared.stage.Stage.TheVariants as stage
 use Rattle.mpt_rules.specs.Host.Doorbell as door
-use Rattle.mpt_rules.specs.Host.Inputs as inputs
 use Rattle.mpt_rules.specs.Host.Parts.{Cmd, Host}
 use Rattle.mpt_rules.specs.Host.Posts as asks
 use Rattle.mpt_rules.specs.Host.Removal as removal
-use Rattle.mpt_rules.specs.Host.Replies as replies
 use Rattle.mpt_rules.specs.Host.Resets as resets
 use Rattle.mpt_rules.specs.Host.Returns as returns
 use Rattle.mpt_rules.specs.Host.Values as values
 use Rattle.law_flights.proofs.HostHolds.{class_within, in_table, slot_of-set}
 use Rattle.law_flights.proofs.Least.{least_is}
-use Rattle.law_identifiers.proofs.Holders.{and_false, closed, get_inserted, get_removed, contains_inserted, is_command, is_of_number, is_plain, is_under, named, new_holder, number_in, of_command, only_command, slot_as, slot_by, under_one, under_some, unnamed}
+use Rattle.law_identifiers.proofs.Holders.{is_command, is_of_number, is_plain, is_under, only_command, slot_as}
 
 abbrev pub Cmds : Type 0
 Cmds = finmap.FinMap nat_cmp Cmd

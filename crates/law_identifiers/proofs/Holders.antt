@@ -18,7 +18,6 @@ use Rattle.smid_pool.specs.Pool.{Free, Open, Parked, Slot, is_free}
 use Rattle.mpt_rules.specs.declared.request.Request.{Request}
 use Rattle.mpt_rules.specs.declared.request.Request.TheVariants as request
 use Rattle.mpt_rules.specs.Host.Parts.{Cmd}
-use Rattle.mpt_rules.specs.Host.Replies.{slot_after}
 
 -- ---- maps and sets by number
 

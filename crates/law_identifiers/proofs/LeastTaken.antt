@@ -1,15 +1,13 @@
 -- Each submission is accepted under the least free identifier, over every list of cases.
-use Rattle.std.proofs.Common.{◌≡◌, ℕ, zero, suc, ◌≤◌, ◌<◌, ◌-◌, ◌+◌, ◌==◌, Bool, true, false, not, if◌then◌else◌, List, [], ◌∷◌, ◌++◌, take, drop, get_or, length, length-take, Option, Some, None, option_map, refl, ap, sym, subst, ◌∙◌, arith, get_or-take, get_or-drop}
+use Rattle.std.proofs.Common.{◌≡◌, ℕ, zero, suc, ◌≤◌, ◌<◌, ◌-◌, ◌+◌, Bool, true, false, not, List, [], ◌∷◌, ◌++◌, drop, get_or, length-take, Option, Some, None, option_map, refl, ap, sym, subst, ◌∙◌, arith, get_or-take, get_or-drop}
 use Rattle.std.specs.Prelude.{All, Result}
 use Rattle.std.specs.FinMap as finmap
 use Rattle.std.specs.FinSet as finset
 use Rattle.std.specs.List.{position}
-use Rattle.std.specs.Ordering.{nat_cmp}
 use Rattle.std.proofs.lemmas.List.Elements.{All-head, All-tail}
 use Rattle.std.proofs.lemmas.List.Quantifiers.{position-Some}
 use Rattle.scsi_disk.specs.Command.{fits}
 use Rattle.scsi_disk.specs.declared.command.Command.{Command}
-use Rattle.mpi_rings.specs.declared.request_descriptor.PostKind.TheVariants as post
 use Rattle.mpt_trace.specs.Command.{command_named}
 use Rattle.mpt_trace.specs.declared.entry.Entry.{Entry}
 use Rattle.mpt_trace.specs.declared.entry.Entry.TheVariants as entry
@@ -20,7 +18,6 @@ use Rattle.mpt_trace.specs.declared.input.Input.TheVariants as input
 use Rattle.mpt_trace.specs.declared.item.Down.{Down}
 use Rattle.mpt_trace.specs.declared.item.Item.TheVariants as item
 use Rattle.mpt_trace.specs.declared.item.Up.{Up}
-use Rattle.mpt_trace.specs.declared.lane.LaneName.TheVariants as lane
 use Rattle.mpt_trace.specs.declared.parties.Party.{Party}
 use Rattle.mpt_trace.specs.declared.parties.Party.TheVariants as party
 use Rattle.mpt_trace.specs.declared.refusal.Refusal.{Refusal}
@@ -28,14 +25,14 @@ use Rattle.mpt_trace.specs.declared.refusal.RefusedCall.TheVariants as call
 use Rattle.mpt_wire.specs.Fits.Lines.{Line}
 use Rattle.mpt_wire.specs.Machine.Causes.{is_up}
 use Rattle.mpt_wire.specs.Queues.LeastFree.{Holder, IsLeastFree, LeastAsks, holder_next, holders_next, is_still_held, no_holders}
-use Rattle.mpt_wire.specs.Walks.Ahead.{PassesAhead, PassesBefore, is_of, next_own, same_party, state_ahead}
+use Rattle.mpt_wire.specs.Walks.Ahead.{PassesAhead, PassesBefore, next_own, state_ahead}
 use Rattle.mpt_wire.specs.Walks.Passes.{EachEntry}
 use Rattle.mpt_wire.proofs.Ahead.{passes_joined}
 use Rattle.mpt_wire.proofs.LeastFree.{least_are_accepted}
 use Rattle.mpt_wire.proofs.Passing.{each_append}
 use Rattle.mpt_wire.specs.Messages.Fields.{target_reset}
 use Rattle.removal.specs.Handles.{ready_handle}
-use Rattle.smid_pool.specs.Pool.{Free, Open, Parked, Slot, all_free, is_free as is_free_slot, least_free, slot_of, slots_in}
+use Rattle.smid_pool.specs.Pool.{Free, Slot, is_free as is_free_slot, least_free, slot_of, slots_in}
 use Rattle.smid_pool.specs.declared.class.Class.TheVariants as class
 use Rattle.mpt_rules.proofs.HostCalls.{submits_by}
 use Rattle.smid_pool.specs.Class.{before}
@@ -50,7 +47,7 @@ use Rattle.mpt_rules.specs.Host.Takes.{hears_up, takes_unless}
 use Rattle.mpt_rules.specs.Law.{IsLine, LeastIdentifiersAreTaken, ReplaysAreOfCases}
 use Rattle.mpt_rules.specs.Outcome.{Called, Happening}
 use Rattle.mpt_rules.specs.Session.OpenCases.{HostCase, fabric_does, host_does, ioc_does, puts_down}
-use Rattle.mpt_rules.specs.World.Cases.{Case, case_of, entries, happens, run, trace}
+use Rattle.mpt_rules.specs.World.Cases.{Case, case_of, entries, happens, trace}
 use Rattle.mpt_rules.specs.World.Inputs.{by_option, by_result, cause_of, host_told, refused_or}
 use Rattle.mpt_rules.specs.World.Moves.{told_of}
 use Rattle.mpt_rules.specs.World.Replays.{replays}
@@ -61,8 +58,8 @@ use Rattle.law_flights.proofs.Least.{least_is}
 use Rattle.law_parties.proofs.HostModes.{NoRefusal}
 use Rattle.law_parties.proofs.ModesAgree.{no_refusal}
 use Rattle.law_parties.proofs.OfParty.{Idles, OfFabric, OfHost, OfIoc, OfParty, of_party}
-use Rattle.law_parties.proofs.Owned.{AreOwned, IsOwned, fabric_owned, ioc_owned, own_of}
-use Rattle.law_identifiers.proofs.Holders.{IsSilent, held_by, holder_by, state_by, stays}
+use Rattle.law_parties.proofs.Owned.{AreOwned, IsOwned, fabric_owned, ioc_owned}
+use Rattle.law_identifiers.proofs.Holders.{IsSilent, held_by, state_by, stays}
 use Rattle.law_identifiers.proofs.HeldSlots.{Holds}
 use Rattle.law_identifiers.proofs.HeldRequests.{renewed}
 use Rattle.law_identifiers.proofs.HeldReplies.{silently}

@@ -1,5 +1,5 @@
 -- Where an identifier has at most one place, that place is the one that is told; and so of a reply frame.
-use Rattle.std.proofs.Common.{◌≡◌, ℕ, ◌+◌, ◌≤◌, Bool, true, false, not, ◌||◌, if◌then◌else◌, List, [], ◌∷◌, map, Option, Some, None, is_some, slice_index_or, refl, ap, sym, ◌∙◌, arith, inl, inr, ◌⊎◌}
+use Rattle.std.proofs.Common.{◌≡◌, ℕ, ◌+◌, ◌≤◌, Bool, true, false, not, ◌||◌, if◌then◌else◌, List, [], ◌∷◌, Some, None, is_some, slice_index_or, refl, ap, sym, ◌∙◌, arith, inl, inr, ◌⊎◌}
 use Rattle.std.specs.Prelude.{sum_by}
 use Rattle.std.specs.List.{list_any}
 use Rattle.std.proofs.lemmas.List.Sums.{sum_by-cons}
@@ -18,7 +18,7 @@ use Rattle.mpt_rules.specs.Ioc.Tables.{is_held_as, is_post_of, request_at}
 use Rattle.mpt_rules.specs.Ioc.Takes.{AtTheFabric, InHighQueue, InNormalQueue, InUpOutbox, frame_here, smid_at}
 use Rattle.mpt_rules.specs.Law.{FramePlacesAreTold, FramesHaveOnePlace, IdentifiersHaveOnePlace, SmidPlacesAreTold}
 use Rattle.mpt_rules.specs.World.Counts.{how_many, one_if, post_count, queued_count, reply_count, return_count, use_count}
-use Rattle.mpt_rules.specs.World.Lines.{down_line, said_of, said_reply}
+use Rattle.mpt_rules.specs.World.Lines.{down_line, said_of}
 use Rattle.mpt_rules.specs.World.PlaceCounts.{frame_count, is_held_frame, is_this_number, replies_on, smid_count}
 use Rattle.mpt_rules.specs.World.Places.{FramePlace, SmidPlace, is_answered_by, is_in_frame, is_posted_as, is_return_of, place_at_ioc, place_of_frame, place_of_slot}
 use Rattle.mpt_rules.specs.World.PlacesTold.{FramePlaceIsTold, SmidPlaceIsTold, frame_found, is_free_slot, is_parked_slot, smid_found}

@@ -6,5 +6,6 @@ mod Lanes
 mod MergedCases
 mod OfCases
 mod Plans
+mod SessionLeast
 mod SessionModes
 mod SessionStates

@@ -22,7 +22,7 @@ case_first p (ByIoc c) rest n = by_other party.Ioc refl (ioc_does p.ioc c).entri
 case_first p (ByFabric c) rest n = by_other party.Fabric refl (fabric_does p.fabric c).entries rest (fabric_owned p.fabric c) n
 case_first p (BySubmitter i c) rest n = by_other (party.Submitter i) refl (submitter_does i c) rest (submitter_owned i c) n
 
-no_refusal : (p : Parties) (ms : List (Of Open)) → NoRefusal (flat_map entries_of (done p ms))
+pub no_refusal : (p : Parties) (ms : List (Of Open)) → NoRefusal (flat_map entries_of (done p ms))
 no_refusal p [] = λ c. refl
 no_refusal p (m ∷ ms) = case_first p m.at.value (flat_map entries_of (done (does p m.at.value).part ms)) (no_refusal (does p m.at.value).part ms)
 

@@ -1,6 +1,6 @@
 //! The laws.
 ghost use Rattle.law_sessions.specs.OfCases.{SessionsAreOfCases};
-ghost use Rattle.mpt_rules.specs.Law.{AllAreAnswered, AnsweredAtMostOnce, NothingFaults, NothingIsStrange, SessionLanesAreQueues, SessionModesAgree, SessionsAreMerged, SessionsAreNeverStrange, SessionsFitPlans, SessionsNeverFault, TellsStandBehind};
+ghost use Rattle.mpt_rules.specs.Law.{AllAreAnswered, AnsweredAtMostOnce, LeastIdentifiersAreTaken, NothingFaults, NothingIsStrange, SessionLanesAreQueues, SessionModesAgree, SessionsAreMerged, SessionsAreNeverStrange, SessionsFitPlans, SessionsNeverFault, TellsStandBehind};
 ghost use Rattle.mpt_rules.specs.Session.Sessions.{EndsQuiet, IsSession, Session, session_trace};
 ghost use Rattle.mpt_rules.specs.World.Settings.{OfEveryWorld, Setting};
 ghost use Rattle.mpt_wire.specs.Queues.Lanes.{LanesInOrder};
@@ -36,6 +36,12 @@ pub fn sessions_are_answered()
 /// What is told stands right after an entry of its own party, in the merge of any session's journals.
 pub fn session_tells_stand_behind()
     ensures { (s : Setting) (x : Session) → TellsStandBehind s (session_trace s x) }
+{}
+
+/// A submission is accepted under the least identifier that no open submission and no open abort has, in the merge of any
+/// session's journals.
+pub fn sessions_take_least()
+    ensures { (s : Setting) (x : Session) → LeastIdentifiersAreTaken s (session_trace s x) }
 {}
 
 /// The machine's mode after a session is that of its host.
