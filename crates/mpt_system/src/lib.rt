@@ -22,6 +22,8 @@ mod rounds;
 mod stepping;
 mod system;
 mod takes;
+#[cfg(test)]
+mod tests;
 mod told;
 mod up_lane;
 mod up_lanes;

@@ -1,6 +1,6 @@
 //! Why a party refuses an input, and the entry of that.
 ghost use Rattle.std.specs.Prelude.{◌≡◌, IfOk, IsErr, IsOk, IsSome, MatchOption, OnErr, OnOk, None, option_and_then};
-ghost use Rattle.host_core.specs.Faults.{refusal_in, refusal_of as host_refusal};
+ghost use Rattle.host_core.specs.Faults.{refusal_in};
 ghost use Rattle.mpt_rules.specs.World.Inputs.{told_cause};
 ghost use Rattle.sas_fabric.specs.Faults.{refusal_of as plug_refusal};
 ghost use Rattle.mpt_system.specs.Asking.{refusal_entry};
@@ -18,29 +18,10 @@ pub fn refused<T: Copy>(answer: Result<T, HostFault>) -> Result<Option<Refusal>,
 {
     match answer {
         Ok(_) => Ok(None),
-        Err(fault) => match host_cause(fault) {
+        Err(fault) => match fault.refusal() {
             Some(cause) => Ok(Some(cause)),
             None => Err(OutOfMemory),
         },
-    }
-}
-
-// The refusal that a fault of the host stands for. None for want of memory.
-fn host_cause(fault: HostFault) -> Option<Refusal>
-    ensures { result ≡ host_refusal fault }
-{
-    match fault {
-        HostFault::NumberUsed => Some(Refusal::NumberUsed),
-        HostFault::NotOperational => Some(Refusal::NotOperational),
-        HostFault::NoDevice => Some(Refusal::NoDevice),
-        HostFault::BadLength => Some(Refusal::BadLength),
-        HostFault::NoIdentifier => Some(Refusal::NoIdentifier),
-        HostFault::NotOpen => Some(Refusal::NotOpen),
-        HostFault::AbortOpen => Some(Refusal::AbortOpen),
-        HostFault::AlreadyStarted => Some(Refusal::AlreadyStarted),
-        HostFault::NotStarted => Some(Refusal::NotStarted),
-        HostFault::AlreadyResetting => Some(Refusal::AlreadyResetting),
-        HostFault::OutOfMemory => None,
     }
 }
 

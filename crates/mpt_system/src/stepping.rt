@@ -24,7 +24,7 @@ impl System {
         ensures { HasStepped self.old choice result self.new }
     {
         self.parties.write_told()?;
-        self.parties.step(choice)
+        self.parties.make_step(choice)
     }
 
     /// Makes a chosen step where it has something to take, and answers whether it had.
@@ -38,7 +38,7 @@ impl System {
 
 impl Parties {
     // The chosen step; where it has nothing to take, that is entered.
-    fn step(&mut self, choice: Choice) -> Result<Moved, StepFault>
+    fn make_step(&mut self, choice: Choice) -> Result<Moved, StepFault>
         requires written { IsWritten self.old }
         requires lanes { HasLanes (world_of self.old) }
         ensures { HasStepped (whole_of self.old) choice result (whole_of self.new) }

@@ -9,10 +9,10 @@ use Rattle.mpt_system.proofs.system.System.step.Goals.{In_ok-write_told}
 ready : (c : In_ok-write_told) → IsReached (whole_of c.write_told.new.self).world (whole_of c.write_told.new.self).entries
 ready c = reached_written (whole_of c.self.inside.parties) (whole_of c.write_told.new.self) c.in_ok-write_told.ensures.ok c.self.invariant
 
-pub step-requires-clause-lanes : goal.step-requires-clause-lanes
-step-requires-clause-lanes c = reached_lanes _ _ (ready (goal.at.step-requires-clause-lanes c).In_ok-write_told)
+pub make_step-requires-clause-lanes : goal.make_step-requires-clause-lanes
+make_step-requires-clause-lanes c = reached_lanes _ _ (ready (goal.at.make_step-requires-clause-lanes c).In_ok-write_told)
 
 pub invariant_of-self-2 : goal.invariant_of-self-2
 invariant_of-self-2 c =
-    reached_stepped (whole_of c.write_told.new.self) (whole_of c.step.new.self) c.args.choice c.step.result c.step.ensures
+    reached_stepped (whole_of c.write_told.new.self) (whole_of c.make_step.new.self) c.args.choice c.make_step.result c.make_step.ensures
     (ready (goal.at.invariant_of-self-2 c).In_ok-write_told)
