@@ -7,6 +7,8 @@
 
 mod answers;
 mod back;
+#[cfg(test)]
+mod call_tests;
 mod commands;
 mod configuration;
 mod disks;

@@ -1,18 +1,23 @@
 //! Worked lists of moves, with values from the interface's headers.
 use crate::{Ioc, IocMove, IocSaid, IocTalk, OutOfMemory, play};
 use mpt_messages::{HostAsk, host_frame};
-use mpt_trace::{Down, Up};
+use mpt_trace::{Back, Down, Up};
 use scsi_disk::Bytes;
 use std::alloc::Global;
 use std::test::Fail;
 
 const DOORBELL: u16 = 0x00;
 
+const WRITE_SEQUENCE: u16 = 0x04;
+
+const HOST_DIAGNOSTIC: u16 = 0x08;
+
 const HOST_INTERRUPT_STATUS: u16 = 0x30;
 
-// What a new controller without expanders says.
+// What a new controller with an expander of one phy says.
 fn talk_of(alloc: Global, moves: &[IocMove]) -> Result<IocTalk, OutOfMemory> {
-    let mut ioc = Ioc::new(alloc, Vec::new(alloc))?;
+    let phys = [1].to_vec(alloc)?;
+    let mut ioc = Ioc::new(alloc, phys)?;
     play(&mut ioc, moves)
 }
 
@@ -22,7 +27,7 @@ fn write(reg: u16, value: u32) -> IocMove {
 
 // The moves that make a new controller operational: IOC Init for one reply queue, dword by dword; and
 // reply frame 0 is returned.
-fn bring_up(alloc: Global) -> Result<Vec<IocMove>, OutOfMemory> {
+pub(crate) fn bring_up(alloc: Global) -> Result<Vec<IocMove>, OutOfMemory> {
     let mut frame = [0; 128];
     host_frame(&HostAsk::Init { queues: 1 }, &mut frame);
     let mut moves = Vec::new(alloc);
@@ -43,14 +48,14 @@ fn bring_up(alloc: Global) -> Result<Vec<IocMove>, OutOfMemory> {
     Ok(moves)
 }
 
-// What an operational controller says after a post of this frame is taken and processed.
+// What a new controller says after these moves, when a post of this frame is taken and processed.
 fn answers(
     alloc: Global,
+    mut moves: Vec<IocMove>,
     descriptor: u64,
     frame: [u8; 128],
     step: IocMove,
 ) -> Result<IocTalk, OutOfMemory> {
-    let mut moves = bring_up(alloc)?;
     moves.push(IocMove::Down(Down::Post {
         descriptor,
         frame,
@@ -109,8 +114,54 @@ fn refuses_command(alloc: Global) -> Result<bool, OutOfMemory> {
     };
     let mut frame = [0; 128];
     host_frame(&ask, &mut frame);
-    let talk = answers(alloc, 0x000a_0000_0001_0000, frame, IocMove::Normal)?;
+    let moves = bring_up(alloc)?;
+    let talk = answers(alloc, moves, 0x000a_0000_0001_0000, frame, IocMove::Normal)?;
     Ok(talk.as_slice().iter().any(|said| is_reply(said, 0x0042, 0)))
+}
+
+// Whether the removal of a disk that is there is answered so.
+fn refuses_removal(alloc: Global) -> Result<bool, OutOfMemory> {
+    let mut frame = [0; 128];
+    host_frame(&HostAsk::Remove { handle: 9 }, &mut frame);
+    let mut moves = bring_up(alloc)?;
+    moves.push(IocMove::Back(Back::Plugged {
+        address: 0x5000_c500_0000_0001,
+        plug: 1,
+        expander: 0,
+        phy: 0,
+    }))?;
+    let talk = answers(alloc, moves, 0x0000_0000_0109_0008, frame, IocMove::Normal)?;
+    Ok(talk.as_slice().iter().any(|said| is_reply(said, 0x0008, 9)))
+}
+
+// Adds the moves that bring back a controller that wasn't reset yet: the keys, the reset, its link, and the Doorbell is
+// read.
+fn bring_back(moves: &mut Vec<IocMove>) -> Result<(), OutOfMemory> {
+    for key in [0x0, 0xf, 0x4, 0xb, 0x2, 0x7, 0xd] {
+        moves.push(write(WRITE_SEQUENCE, key))?;
+    }
+    moves.push(write(HOST_DIAGNOSTIC, 0x84))?;
+    moves.push(IocMove::PutOut)?;
+    moves.push(IocMove::Back(Back::Linked { generation: 1 }))?;
+    moves.push(write(HOST_DIAGNOSTIC, 0x80))?;
+    moves.push(IocMove::Down(Down::Read { reg: DOORBELL }))?;
+    moves.push(IocMove::PutUp)?;
+    moves.push(IocMove::PutUp)?;
+    Ok(())
+}
+
+// Whether a controller is READY again after this write to the Doorbell.
+fn comes_back(alloc: Global, written: u32) -> Result<bool, OutOfMemory> {
+    let mut moves = Vec::new(alloc);
+    moves.push(write(DOORBELL, written))?;
+    moves.push(IocMove::Down(Down::Read { reg: DOORBELL }))?;
+    moves.push(IocMove::PutUp)?;
+    bring_back(&mut moves)?;
+    let talk = talk_of(alloc, &moves)?;
+    Ok(match talk.as_slice().last() {
+        Some(said) => is_value(said, 15, 0x1000_0000),
+        None => false,
+    })
 }
 
 // Whether task management of a type that isn't carried out is answered so.
@@ -118,7 +169,8 @@ fn refuses_task(alloc: Global, task_type: u8) -> Result<bool, OutOfMemory> {
     let mut frame = [0; 128];
     frame[3] = 0x01;
     frame[5] = task_type;
-    let talk = answers(alloc, 0x0000_0000_0101_0006, frame, IocMove::High)?;
+    let moves = bring_up(alloc)?;
+    let talk = answers(alloc, moves, 0x0000_0000_0101_0006, frame, IocMove::High)?;
     Ok(
         talk.as_slice()
             .iter()
@@ -136,6 +188,21 @@ fn wrong_writes_are_faults(rt: HostRuntime) -> Result<(), Fail> {
 #[test]
 fn command_for_no_disk_is_refused(rt: HostRuntime) -> Result<(), Fail> {
     assert!(rt; refuses_command(rt.alloc())?);
+    Ok(())
+}
+
+#[test]
+fn disk_that_is_there_is_not_removed(rt: HostRuntime) -> Result<(), Fail> {
+    assert!(rt; refuses_removal(rt.alloc())?);
+    Ok(())
+}
+
+// From two faults, and from a handshake whose message doesn't come.
+#[test]
+fn controller_comes_back(rt: HostRuntime) -> Result<(), Fail> {
+    assert!(rt; comes_back(rt.alloc(), 0x4200_0000)?);
+    assert!(rt; comes_back(rt.alloc(), 0x5000_0000)?);
+    assert!(rt; comes_back(rt.alloc(), 0x4212_0000)?);
     Ok(())
 }
 

@@ -1,18 +1,16 @@
 -- A controller comes back, whatever was done to it.
-use Rattle.std.proofs.Common.{◌≡◌, ℕ, zero, suc, ◌+◌, ◌≤◌, ◌==◌, Bool, true, false, if◌then◌else◌, List, [], ◌∷◌, ◌++◌, length, drop, map, replicate, Option, Some, None, refl, ap, sym, subst, ◌∙◌, arith, append_assoc}
+use Rattle.std.proofs.Common.{◌≡◌, ℕ, zero, suc, ◌+◌, ◌≤◌, ◌==◌, Bool, true, false, if◌then◌else◌, List, [], ◌∷◌, ◌++◌, length, drop, map, replicate, None, refl, ap, sym, subst, ◌∙◌, arith, append_assoc}
 use Rattle.std.specs.List.{filter}
 use Rattle.mpi_doorbell.specs.Keys.{place_after}
 use Rattle.mpi_doorbell.specs.declared.registers.TheConstants.{IOC_STATE_READY}
 use Rattle.mpi_doorbell.specs.declared.state.IocState.TheVariants as state
-use Rattle.mpt_trace.specs.declared.item.Back.TheVariants as back
-use Rattle.mpt_trace.specs.declared.item.Out.TheVariants as out
 use Rattle.mpt_trace.specs.declared.item.Up.TheVariants as up
 use Rattle.mpt_rules.specs.declared.said.Said.{Said}
 use Rattle.mpt_rules.specs.declared.said.Said.TheVariants as word
 use Rattle.mpt_rules.specs.Ioc.Parts.{Ioc}
-use Rattle.mpt_rules.specs.Ioc.Resets.{forgets, marked, next_generation, outlives_reset}
-use Rattle.mpt_rules.specs.Ioc.Sending.{front_up_of, front_up_on}
-use Rattle.ioc_core.specs.Plays.{after_moves, moved, placed, puts_up, talk_from}
+use Rattle.mpt_rules.specs.Ioc.Resets.{forgets, next_generation, outlives_reset}
+use Rattle.mpt_rules.specs.Ioc.Sending.{front_up_on}
+use Rattle.ioc_core.specs.Plays.{after_moves, moved, placed, talk_from}
 use Rattle.ioc_core.specs.declared.moves.IocMove.{IocMove}
 use Rattle.ioc_core.specs.declared.moves.IocMove.TheVariants as move
 use Rattle.ioc_core.specs.declared.moves.IocSaid.{IocSaid}
