@@ -1,0 +1,10 @@
+pub mod Asks
+pub mod Rounds
+pub mod Unbelled
+pub mod Locked
+pub mod LocksHost
+pub mod UnitAsked
+pub mod LocksKept
+pub mod Leading
+pub mod InStep
+pub mod LocksStand
