@@ -1,0 +1,4 @@
+pub mod Hosts
+pub mod BareKept
+pub mod FreshKept
+pub mod FreshStands
