@@ -1,5 +1,6 @@
 pub mod Leads
 mod Plugs
+mod Farther
 mod Granted
 mod Told
 mod Stamped

@@ -2,6 +2,7 @@
 #![tactic(auto)]
 
 mod fabric_end;
+mod gate;
 mod giving;
 mod host_end;
 mod ioc_end;
@@ -13,16 +14,21 @@ mod recorded_host;
 mod recorded_ioc;
 mod recorded_submitter;
 mod refusals;
+mod running;
 mod sent;
 mod submitter_end;
 mod taking;
+mod workplace;
 
 pub use fabric_end::FabricEnd;
+pub use gate::{Gate, OpenGate};
 pub use giving::Giving;
 pub use host_end::HostEnd;
 pub use ioc_end::IocEnd;
 pub use mpt_journal::{Journal, OutOfMemory};
 pub use pumped::Pumped;
+pub use running::{run_fabric, run_host, run_ioc, run_submitter};
 pub use sent::{LAST_STAMP, Sent};
 pub use submitter_end::SubmitterEnd;
 pub use taking::Taking;
+pub use workplace::Workplace;

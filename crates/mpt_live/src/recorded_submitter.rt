@@ -52,6 +52,13 @@ impl RecordedSubmitter {
         self.clock
     }
 
+    /// The number.
+    pub(crate) fn number(&self) -> u8
+        ensures { result ≡ self.now.number }
+    {
+        self.number
+    }
+
     /// The journal.
     pub(crate) fn into_journal(self) -> Journal
         ensures { result.row ≡ self.recorded.row }

@@ -174,6 +174,20 @@ impl<'a> SubmitterEnd<'a> {
         }
     }
 
+    /// The number.
+    pub fn number(&self) -> u8
+        ensures { result ≡ self.now.number }
+    {
+        self.recorded.number()
+    }
+
+    /// Whether memory was wanting.
+    pub fn is_spent(&self) -> bool
+        ensures { result ≡ self.now.is_spent }
+    {
+        self.spent
+    }
+
     /// The journal.
     pub fn finish(self) -> Journal
         ensures { result.row ≡ self.entry.recorded.row }
