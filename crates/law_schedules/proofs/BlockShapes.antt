@@ -1,5 +1,5 @@
 -- What the controller's cases tell beside what they take: handles that are bound or unbound, and all at a reset.
-use Rattle.std.proofs.Common.{◌≡◌, ℕ, ◌&&◌, ◌||◌, Bool, true, false, not, if◌then◌else◌, List, [], ◌∷◌, take, Option, Some, None, refl, ap, sym, subst, ◌∙◌}
+use Rattle.std.proofs.Common.{◌≡◌, ℕ, ◌&&◌, Bool, true, List, [], ◌∷◌, Option, Some, None, refl, ap, sym, subst, ◌∙◌}
 use Rattle.std.specs.List.{list_all}
 use Rattle.mpi_doorbell.specs.DoorRegisters.{register_written}
 use Rattle.mpi_doorbell.specs.declared.effect.Effect.{Effect}

@@ -1,12 +1,12 @@
 -- Disks of the fabric, counted: one that is plugged or unplugged changes each count by itself alone, and where each plugged
 -- disk has a phy of its own the phys that have a disk are as many as the plugged disks.
-use Rattle.std.proofs.Common.{◌≡◌, ℕ, zero, suc, ◌+◌, ◌-◌, ◌<◌, ◌≤◌, ◌==◌, ◌&&◌, ◌||◌, nat_lt, Bool, true, false, not, cond, if◌then◌else◌, List, [], ◌∷◌, ◌++◌, length, map, filter_map, slice_index, Option, Some, None, is_some, refl, ap, ap₂, sym, subst, ◌∙◌, arith}
+use Rattle.std.proofs.Common.{◌≡◌, ℕ, zero, suc, ◌+◌, ◌<◌, ◌≤◌, ◌==◌, ◌&&◌, ◌||◌, Bool, true, false, not, cond, if◌then◌else◌, List, [], ◌∷◌, ◌++◌, length, map, filter_map, slice_index, Option, Some, None, is_some, refl, ap, sym, ◌∙◌, arith}
 use Rattle.std.specs.List.{cons_option, filter, find, list_any, range_with_len}
 use Rattle.std.specs.Option.{option_and_then, option_map}
 use Rattle.std.proofs.lemmas.Bool.Decides.{nat_tests}
 use Rattle.mpt_trace.specs.declared.item.Back.{Back}
 use Rattle.mpt_rules.specs.Fabric.Disks.{changed_if, has_address, is_at, phys_of, places_from, plugged_news, stands_at, with_disk}
-use Rattle.mpt_rules.specs.Fabric.Parts.{Fabric, FabricDisk, Place}
+use Rattle.mpt_rules.specs.Fabric.Parts.{FabricDisk, Place}
 use Rattle.mpt_rules.specs.World.Counts.{how_many, one_if}
 use Rattle.mpt_rules.proofs.Counts.{how_many-append}
 use Rattle.law_flights.proofs.KnownOnce.{none_counted}

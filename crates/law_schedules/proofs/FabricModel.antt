@@ -1,5 +1,5 @@
 -- The model of what is queued at the fabric goes with the fabric: each case of the fabric that a schedule can make.
-use Rattle.std.proofs.Common.{◌≡◌, ℕ, zero, suc, ◌+◌, ◌-◌, ◌<◌, ◌≤◌, ◌==◌, ◌&&◌, ◌||◌, nat_le, nat_lt, Bool, true, false, not, cond, if◌then◌else◌, List, [], ◌∷◌, ◌++◌, drop, length, map, slice_index, Option, Some, None, is_some, refl, ap, ap₂, sym, subst, ◌∙◌, arith}
+use Rattle.std.proofs.Common.{◌≡◌, ℕ, ◌+◌, ◌-◌, ◌<◌, ◌≤◌, ◌==◌, ◌&&◌, Bool, true, false, not, cond, if◌then◌else◌, List, [], ◌∷◌, ◌++◌, drop, length, map, slice_index, Option, Some, None, is_some, refl, ap, ap₂, sym, subst, ◌∙◌, arith}
 use Rattle.std.specs.List.{cons_option, filter, filter_map, find, list_any}
 use Rattle.std.specs.Option.{option_and_then, option_map}
 use Rattle.std.proofs.lemmas.Bool.Decides.{nat_tests}
@@ -20,7 +20,7 @@ use Rattle.mpt_rules.specs.Fabric.Tasks.{aborts_task, after_abort_if, after_task
 use Rattle.mpt_rules.specs.World.Counts.{how_many, one_if}
 use Rattle.mpt_rules.proofs.Counts.{how_many-append}
 use Rattle.law_flights.proofs.KnownOnce.{count_filter, none_counted}
-use Rattle.law_schedules.proofs.DiskCounts.{ArePlaced, IsPlaced, all_stay, any_counted, any_is, any_map, as_many_news, both_lengths, count_changed, counted_cons, counted_map, counted_nil, filter_map_both, found_address, found_changed, is_any, is_plugged_disk, length_append, length_filtered, length_map, placed_changed, plug_at, plug_changed}
+use Rattle.law_schedules.proofs.DiskCounts.{ArePlaced, IsPlaced, all_stay, any_is, any_map, as_many_news, both_lengths, count_changed, counted_cons, counted_nil, filter_map_both, is_any, is_plugged_disk, length_append, length_filtered, length_map, placed_changed, plug_at, plug_changed}
 
 abbrev pub as_queued_task : Task → QueuedTask
 as_queued_task task = record { tag = task.tag; address = task.address }

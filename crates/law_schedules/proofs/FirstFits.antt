@@ -1,5 +1,5 @@
 -- The model in which nothing is queued goes with a world that was just made.
-use Rattle.std.proofs.Common.{◌≡◌, ◌≢◌, ℕ, zero, suc, ◌+◌, ◌<◌, ◌≤◌, ◌==◌, Bool, true, false, if◌then◌else◌, List, [], ◌∷◌, length, map, get_or, Option, Some, None, is_some, refl, ap, sym, ◌∙◌, arith}
+use Rattle.std.proofs.Common.{◌≡◌, ◌≢◌, ℕ, suc, ◌+◌, ◌<◌, ◌≤◌, ◌==◌, Bool, true, false, if◌then◌else◌, List, [], ◌∷◌, length, map, get_or, Option, Some, None, is_some, refl, ap, sym, ◌∙◌, arith}
 use Rattle.std.specs.Prelude.{AllPairs}
 use Rattle.std.specs.List.{find}
 use Rattle.std.specs.Option.{option_and_then}
@@ -14,7 +14,7 @@ use Rattle.mpt_rules.specs.Ioc.Parts.{new_ioc}
 use Rattle.mpt_rules.specs.World.Counts.{how_many, one_if}
 use Rattle.law_schedules.proofs.DiskCounts.{ArePlaced, counted_cons, counted_nil, is_plugged_disk, plug_at}
 use Rattle.law_schedules.proofs.FabricModel.{FabricFits}
-use Rattle.law_schedules.proofs.HostModel.{FitsOut, is_command_post}
+use Rattle.law_schedules.proofs.HostModel.{FitsOut}
 use Rattle.law_schedules.proofs.QueueModel.{QueuesFit}
 
 abbrev AreApart : List DiskSpec → Type 0

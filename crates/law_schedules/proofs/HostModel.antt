@@ -1,13 +1,13 @@
 -- The model of what the host has to put goes with the host's outbox: it has no more posts of commands than the outbox, and where
 -- the host was started and has put nothing the outbox has a register access.
-use Rattle.std.proofs.Common.{◌≡◌, ℕ, ◌+◌, ◌-◌, ◌*◌, ◌%◌, ◌^◌, ◌≤◌, ◌==◌, ◌||◌, nat_lt, Bool, true, false, not, if◌then◌else◌, List, [], ◌∷◌, ◌++◌, Option, Some, None, refl, ap, sym, subst, ◌∙◌, arith}
+use Rattle.std.proofs.Common.{◌≡◌, ℕ, ◌+◌, ◌-◌, ◌*◌, ◌%◌, ◌^◌, ◌≤◌, ◌||◌, nat_lt, Bool, true, false, if◌then◌else◌, List, [], ◌∷◌, ◌++◌, refl, ap, ◌∙◌, arith}
 use Rattle.std.specs.List.{filter, list_any}
 use Rattle.std.proofs.lemmas.List.Folds.{list_any-append}
 use Rattle.mpi_rings.specs.declared.request_descriptor.PostKind.TheVariants as post
 use Rattle.mpt_trace.specs.declared.item.Down.{Down}
 use Rattle.mpt_trace.specs.declared.item.Down.TheVariants as down
 use Rattle.mpt_wire.specs.Fits.Blocks.{has_to_put}
-use Rattle.mpt_wire.specs.Fits.Queued.{Queued, after_post, is_scsi_io}
+use Rattle.mpt_wire.specs.Fits.Queued.{Queued, is_scsi_io}
 use Rattle.mpt_wire.specs.Messages.Fields.{kind_by_flags, kind_in, post_descriptor}
 use Rattle.mpt_rules.specs.Host.Resets.{is_no_post}
 use Rattle.mpt_rules.specs.World.Counts.{how_many, one_if}

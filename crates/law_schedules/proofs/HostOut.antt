@@ -1,5 +1,5 @@
 -- The host's outbox only grows as the host takes items: what holds of it, and of it with more behind, holds after each.
-use Rattle.std.proofs.Common.{◌≡◌, ℕ, ◌==◌, ◌&&◌, Bool, true, false, if◌then◌else◌, List, [], ◌∷◌, ◌++◌, slice_set, take, Option, Some, None, refl, ap}
+use Rattle.std.proofs.Common.{ℕ, ◌==◌, ◌&&◌, Bool, true, false, if◌then◌else◌, List, [], ◌∷◌, ◌++◌, slice_set, take, Option, Some, None}
 use Rattle.std.specs.FinMap as finmap
 use Rattle.std.specs.List.{fold, range_with_len}
 use Rattle.mpi_doorbell.specs.HostDoor.{HostDoor}
@@ -12,10 +12,8 @@ use Rattle.mpt_messages.specs.HostFrames.{host_message}
 use Rattle.mpt_messages.specs.declared.host_ask.HostAsk.{HostAsk}
 use Rattle.mpt_messages.specs.declared.host_ask.HostAsk.TheVariants as ask
 use Rattle.mpt_trace.specs.declared.item.Down.{Down}
-use Rattle.mpt_trace.specs.declared.item.Down.TheVariants as down
 use Rattle.mpt_trace.specs.declared.item.Up.{Up}
 use Rattle.mpt_trace.specs.declared.item.Up.TheVariants as up
-use Rattle.mpt_trace.specs.declared.outcome.Outcome.{Outcome as Ending}
 use Rattle.mpt_wire.specs.Machine.Causes.{is_resetting}
 use Rattle.mpt_wire.specs.Messages.Fields.{Change, changes_in, event_context_in, event_in, frame_address_in, smid_in, target_added, target_not_responding}
 use Rattle.removal.specs.Handles.{phase_at, with_phase}

@@ -4,5 +4,6 @@ pub mod FabricModel
 pub mod FirstFits
 pub mod HostModel
 pub mod HostOut
+pub mod LaneCounts
 pub mod QueueModel
 pub mod QueueWrites

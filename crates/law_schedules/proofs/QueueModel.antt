@@ -1,12 +1,9 @@
 -- The model of the controller's queues goes with the controller, where it queues each post that it takes and an abort that it
 -- processes stands.
-use Rattle.std.proofs.Common.{◌≡◌, ℕ, ◌==◌, ◌&&◌, ◌||◌, nat_lt, Bool, true, false, not, if◌then◌else◌, List, [], ◌∷◌, ◌++◌, drop, length, map, take, slice_index, Option, Some, None, refl, ap, ap₂, sym, subst, ◌∙◌, arith}
+use Rattle.std.proofs.Common.{◌≡◌, ℕ, ◌==◌, ◌&&◌, ◌||◌, nat_lt, Bool, true, false, not, if◌then◌else◌, List, [], ◌∷◌, ◌++◌, drop, length, map, slice_index, Option, Some, None, refl, ap, ap₂, sym, subst, ◌∙◌, arith}
 use Rattle.std.specs.List.{filter, find, list_any}
-use Rattle.std.proofs.lemmas.Bool.Decides.{nat_tests}
 use Rattle.std.proofs.lemmas.List.{map-append}
-use Rattle.mpi_doorbell.specs.DoorRegisters.{is_fault, register_written}
-use Rattle.mpi_doorbell.specs.declared.effect.Effect.{Effect}
-use Rattle.mpi_doorbell.specs.declared.effect.Effect.TheVariants as effect
+use Rattle.mpi_doorbell.specs.DoorRegisters.{is_fault}
 use Rattle.mpi_layout.specs.Rows.{field}
 use Rattle.mpi_rings.specs.RequestDescriptor.{flags_of}
 use Rattle.mpi_rings.specs.declared.request_descriptor.PostKind.{PostKind}
@@ -18,10 +15,8 @@ use Rattle.mpt_messages.specs.declared.fault.MsgFault.TheVariants as refusal
 use Rattle.mpt_messages.specs.declared.function.Function.{Function}
 use Rattle.mpt_messages.specs.declared.function.Function.TheVariants as function
 use Rattle.mpt_messages.specs.declared.function.Kind.TheVariants as kind
-use Rattle.mpt_trace.specs.declared.entry.Entry.{Entry}
-use Rattle.mpt_trace.specs.declared.entry.Entry.TheVariants as entry
 use Rattle.mpt_trace.specs.declared.item.Back.{Back}
-use Rattle.mpt_wire.specs.Fits.Queued.{Queued, QueuedPost, is_named, is_scsi_io, high_processed, normal_processed, post_taken, without_named}
+use Rattle.mpt_wire.specs.Fits.Queued.{Queued, QueuedPost, is_named, is_scsi_io, high_processed, normal_processed, post_taken}
 use Rattle.mpt_wire.specs.Messages.Fields.{abort_task, controlled_handle_in, dev_handle_in, flags_in, function_in, kind_by_flags, kind_in, smid_in, target_reset, task_mid_in, task_type_in}
 use Rattle.mpt_wire.specs.Messages.Naming.{is_abort, is_high_priority}
 use Rattle.mpt_rules.specs.declared.binding.Binding.{Binding}
@@ -33,7 +28,6 @@ use Rattle.mpt_rules.specs.Ioc.Bindings as bind
 use Rattle.mpt_rules.specs.Ioc.Commands as commands
 use Rattle.mpt_rules.specs.Ioc.Parts.{Ioc, state_of}
 use Rattle.mpt_rules.specs.Ioc.Posts as posts
-use Rattle.mpt_rules.specs.Ioc.Registers.{after_effect, handshakes}
 use Rattle.mpt_rules.specs.Ioc.Replies.{says_on}
 use Rattle.mpt_rules.specs.Ioc.Requests as ask
 use Rattle.mpt_rules.specs.declared.status.TheConstants.{IOC_STATUS_SUCCESS}
@@ -42,11 +36,9 @@ use Rattle.mpt_rules.specs.Ioc.Tables as table
 use Rattle.mpt_rules.specs.Ioc.Takes.{posts_if_operational}
 use Rattle.mpt_rules.specs.Ioc.Tasks as tasks
 use Rattle.mpt_rules.specs.Outcome.{Happening}
-use Rattle.mpt_rules.specs.World.Counts.{how_many}
 use Rattle.law_flights.proofs.KnownOnce.{none_counted}
 use Rattle.law_flights.proofs.Leaves.{Bound, Calmed, Done, Ended, Hears, Linked, Lost, Passed, Unawaited, Waits, back_leaf}
 use Rattle.law_flights.proofs.WorkLeaves.{AbortEnds, AbortSends, Acks, Dropped, Enables, EndsPlainly, Notifies, PageEnds, PageGiven, Refuses, RemovalEnds, Removes, ResetEnds, ResetHolds, ResetSends, ScsiEnds, ScsiSends, Stops, Strays, TaskFails, Works, works_leaf}
-use Rattle.law_moves.proofs.IocTakes.{ComesUp, Shook, Stays, shook}
 use Rattle.law_schedules.proofs.DiskCounts.{all_stay, filter_map_both}
 
 abbrev pub as_queued_post : Post → QueuedPost

@@ -1,6 +1,6 @@
 -- The model of the controller's queues goes with the controller through each item of the host that it takes: a register
 -- that is written leaves the queues, or a reset empties them, which the trace tells.
-use Rattle.std.proofs.Common.{ℕ, ◌≡◌, Bool, true, false, not, ◌||◌, if◌then◌else◌, List, [], ◌∷◌, ◌++◌, take, refl, sym, subst}
+use Rattle.std.proofs.Common.{ℕ, ◌≡◌, Bool, true, false, not, ◌||◌, if◌then◌else◌, [], ◌∷◌, ◌++◌, take, refl, sym, subst}
 use Rattle.mpi_doorbell.specs.DoorRegisters.{is_fault, register_written}
 use Rattle.mpi_doorbell.specs.declared.effect.Effect.{Effect}
 use Rattle.mpi_doorbell.specs.declared.effect.Effect.TheVariants as effect
@@ -12,7 +12,7 @@ use Rattle.mpt_trace.specs.declared.lane.LaneName.TheVariants as lane
 use Rattle.mpt_wire.specs.Fits.Queued.{Queued, queued_after, queued_by}
 use Rattle.mpt_rules.specs.Ioc.Parts.{Ioc, state_of}
 use Rattle.mpt_rules.specs.Ioc.Posts.{bad_return, frame_here, frame_near, is_frame_address}
-use Rattle.mpt_rules.specs.Ioc.Registers.{after_effect, after_read, handshakes, writes}
+use Rattle.mpt_rules.specs.Ioc.Registers.{after_effect, handshakes, writes}
 use Rattle.mpt_rules.specs.Ioc.Replies.{with_out_item}
 use Rattle.mpt_trace.specs.declared.item.Out.TheVariants as out
 use Rattle.mpt_rules.specs.Ioc.Tables as table
