@@ -1,0 +1,9 @@
+pub mod BlockShapes
+pub mod DiskCounts
+pub mod FabricModel
+pub mod FirstFits
+pub mod HostModel
+pub mod HostOut
+pub mod LaneCounts
+pub mod QueueModel
+pub mod QueueWrites
