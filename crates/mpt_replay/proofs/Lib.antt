@@ -1,0 +1,5 @@
+pub mod Lanes
+pub mod Lines
+pub mod Heads
+pub mod Texts
+pub mod Replays
