@@ -1,0 +1,4 @@
+pub mod Ones
+pub mod Through
+pub mod UpKept
+pub mod ClocksKept
