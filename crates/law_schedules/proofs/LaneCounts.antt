@@ -9,6 +9,11 @@ use Rattle.mpt_trace.specs.declared.lane.LaneName.{LaneName}
 use Rattle.mpt_wire.specs.Fits.Blocks.{all_taken, is_empty}
 use Rattle.mpt_wire.specs.Queues.Lanes.{IsFirst, LaneAsks, lane_next, put_on_lane, same_lane, taken_from}
 use Rattle.mpt_wire.specs.Walks.Passes.{Passes, state_after}
+use Rattle.mpt_rules.specs.World.Cases as world
+use Rattle.mpt_rules.specs.World.Cases.{Case, trace}
+use Rattle.mpt_rules.specs.World.Settings.{Setting, first_world}
+use Rattle.law_flights.proofs.Lanes.{lane_items}
+use Rattle.law_flights.proofs.LanesKept.{lane_is}
 use Rattle.law_schedules.proofs.DiskCounts.{length_append}
 
 equal : (a b : ℕ) → a ≡ b + 0 → (a == b) ≡ true
@@ -41,3 +46,9 @@ module _ (lane : LaneName) where
       by_state : (s : List Item) → length (filter_map (put_on_lane lane) t) ≡ length (filter_map (taken_from lane) t) + length s → (length (filter_map (put_on_lane lane) t) == length (filter_map (taken_from lane) t)) ≡ is_empty s
       by_state [] e = equal (length (filter_map (put_on_lane lane) t)) (length (filter_map (taken_from lane) t)) e
       by_state (x ∷ xs) e = apart (length (filter_map (put_on_lane lane) t)) (length (filter_map (taken_from lane) t)) (length (x ∷ xs)) e (omega arith)
+
+-- all that was put on a lane was taken exactly where the world has nothing on it
+pub lane_taken : (lane : LaneName) (s : Setting) (cases : List Case) → all_taken lane (trace (first_world s) cases) ≡ is_empty (lane_items lane (world.run (first_world s) cases).down (world.run (first_world s) cases).up (world.run (first_world s) cases).out (world.run (first_world s) cases).back)
+lane_taken lane s cases =
+    let k = lane_is lane s cases in
+    taken_all lane (trace (first_world s) cases) k.0 ∙ ap (λ (items : List Item). is_empty items) k.1
