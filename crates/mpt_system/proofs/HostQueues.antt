@@ -1,6 +1,7 @@
--- Whatever the host does, it has as many reply queues as before.
+-- Whatever the host does, it has as many reply queues as before, and a phase of each handle.
 use Rattle.std.proofs.Common.{◌≡◌, ◌==◌, ◌&&◌, ℕ, Bool, true, false, if◌then◌else◌, List, [], ◌∷◌, length, length-set, slice_set, Option, Some, None, Result, ◌∙◌}
 use Rattle.std.specs.List.{fold, range_with_len}
+use Rattle.std.proofs.lemmas.List.{length-replicate}
 use Rattle.mpi_doorbell.specs.HostDoor.{HostDoor}
 use Rattle.mpi_doorbell.specs.HostSteps.{diagnostic_reset, look_at_doorbell, unit_reset}
 use Rattle.mpi_doorbell.specs.declared.step.DoorStep.{DoorStep}
@@ -47,9 +48,9 @@ use Rattle.mpt_rules.specs.Host.Values as values
 use Rattle.mpt_rules.specs.Host.Strange.{why_strange}
 use Rattle.mpt_rules.specs.World.Inputs as told
 
--- the host has so many reply queues
+-- the host has so many reply queues, and a phase of each of the 64 handles
 abbrev pub HasQueues : ℕ → Host → Type 0
-HasQueues n host = length host.indices ≡ n
+HasQueues n host = (length host.indices ≡ n) × (length host.phases ≡ 64)
 
 -- it holds either way
 either : {A : Type 0} (P : A → Type 0) (b : Bool) (x y : A) → P x → P y → P (if b then x else y)
@@ -60,14 +61,18 @@ module _ (n : ℕ) where
   abbrev Has : Host → Type 0
   Has host = HasQueues n host
 
+  -- a phase of a handle is another
+  with_phase_of : (host : Host) (handle : ℕ) (p : Phase) → Has host → Has (removal.with_phase_of host handle p)
+  with_phase_of host handle p h = (h.0, length-set host.phases _ p ∙ h.1)
+
   abbrev Leaves : Happening Host → Type 0
   Leaves o = HasQueues n o.part
 
   -- ---- posts
 
   posts_internal : (host : Host) (smid : ℕ) (r : Request) → Has host → Has (posts.posts_internal host smid r)
-  posts_internal host smid (request.Page handle) h = h
-  posts_internal host smid (request.Remove handle) h = h
+  posts_internal host smid (request.Page handle) h = (h.0, length-set host.phases _ _ ∙ h.1)
+  posts_internal host smid (request.Remove handle) h = (h.0, length-set host.phases _ _ ∙ h.1)
   posts_internal host smid (request.Ack event context) h = h
   posts_internal host smid request.Notification h = h
   posts_internal host smid request.PortEnable h = h
@@ -78,7 +83,7 @@ module _ (n : ℕ) where
 
   leave_or_waits : (host : Host) (handle : ℕ) (o : Option ℕ) → Has host → Has (posts.posts_leave_or_waits host handle o)
   leave_or_waits host handle None h = h
-  leave_or_waits host handle (Some smid) h = h
+  leave_or_waits host handle (Some smid) h = (h.0, length-set host.phases _ _ ∙ h.1)
 
   asks_leave : (host : Host) (handle : ℕ) → Has host → Has (posts.asks_leave host handle)
   asks_leave host handle h = leave_or_waits host handle (least_free High host.pool) h
@@ -92,7 +97,7 @@ module _ (n : ℕ) where
 
   gives_high : (host : Host) (smid : ℕ) (handles : List ℕ) → Has host → Has (posts.gives_high host smid handles)
   gives_high host smid [] h = h
-  gives_high host smid (handle ∷ rest) h = h
+  gives_high host smid (handle ∷ rest) h = (h.0, length-set host.phases _ _ ∙ h.1)
 
   gives_internal : (host : Host) (smid : ℕ) (rs : List Request) → Has host → Has (posts.gives_internal host smid rs)
   gives_internal host smid [] h = h
@@ -153,7 +158,7 @@ module _ (n : ℕ) where
   -- ---- events
 
   after_added : (host : Host) (handle : ℕ) (p : Phase) → Has host → Has (removal.after_handle_added host handle p)
-  after_added host handle phase.Absent h = asks_internal (removal.with_phase_of host handle (marked_added phase.Absent)) (request.Page handle) h
+  after_added host handle phase.Absent h = asks_internal (removal.with_phase_of host handle (marked_added phase.Absent)) (request.Page handle) (with_phase_of host handle (marked_added phase.Absent) h)
   after_added host handle phase.WaitRead h = h
   after_added host handle (phase.Reading smid) h = h
   after_added host handle (phase.Ready address) h = h
@@ -163,7 +168,7 @@ module _ (n : ℕ) where
   after_added host handle (phase.Removing smid) h = h
 
   begins_removal : (host : Host) (handle : ℕ) (p : Phase) → Has host → Leaves (removal.begins_removal host handle p)
-  begins_removal host handle p h = leave_or_waits _ handle (least_free High host.pool) h
+  begins_removal host handle p h = leave_or_waits _ handle (least_free High host.pool) (h.0, length-set host.phases _ _ ∙ h.1)
 
   after_lost : (host : Host) (handle : ℕ) (p : Phase) → Has host → Leaves (removal.after_handle_lost host handle p)
   after_lost host handle phase.WaitRead h = begins_removal host handle phase.WaitRead h
@@ -200,7 +205,7 @@ module _ (n : ℕ) where
   with_frame_heard host descriptor (Some frame) h = with_frame_back host _ h
 
   takes_entry : (host : Host) (queue : ℕ) → Has host → Has (replies.takes_entry host queue)
-  takes_entry host queue h = length-set host.indices queue (replies.next_index host queue) ∙ h
+  takes_entry host queue h = (length-set host.indices queue (replies.next_index host queue) ∙ h.0, h.1)
 
   unparks : (host : Host) (task : ℕ) (s : Slot Request) → Has host → Has (replies.unparks host task s)
   unparks host task Parked h = h
@@ -216,7 +221,7 @@ module _ (n : ℕ) where
   left : (host : Host) (smid handle : ℕ) → Has host → Has (removal.left host smid handle)
   left host smid handle h =
       let freed : Host = posts.frees_high (removal.with_phase_of host handle (after_task_done (phase_at host.phases handle) smid)) smid in
-      let g : Has freed = frees_high (removal.with_phase_of host handle (after_task_done (phase_at host.phases handle) smid)) smid h in
+      let g : Has freed = frees_high (removal.with_phase_of host handle (after_task_done (phase_at host.phases handle) smid)) smid (with_phase_of host handle (after_task_done (phase_at host.phases handle) smid) h) in
       either Has (removal.is_reset_under smid (phase_at host.phases handle)) (posts.asks_internal freed (request.Remove handle)) freed (asks_internal freed (request.Remove handle) g) g
 
   hears_answer : (host : Host) (smid : ℕ) (r : Request) (reply : replies.Heard) → Has host → Leaves (replies.hears_answer host smid r reply)
@@ -224,8 +229,8 @@ module _ (n : ℕ) where
   hears_answer host smid (request.Abort m task) reply h = ends_abort host smid m task (replies.reply_bytes reply) h
   hears_answer host smid (request.TargetReset address) reply h = frees_high host smid h
   hears_answer host smid (request.Leave handle) reply h = unless_resetting host smid _ h (left host smid handle h)
-  hears_answer host smid (request.Page handle) reply h = unless_resetting host smid _ h (frees_internal _ smid h)
-  hears_answer host smid (request.Remove handle) reply h = unless_resetting host smid _ h (frees_internal _ smid h)
+  hears_answer host smid (request.Page handle) reply h = unless_resetting host smid _ h (frees_internal _ smid (with_phase_of host handle _ h))
+  hears_answer host smid (request.Remove handle) reply h = unless_resetting host smid _ h (frees_internal _ smid (with_phase_of host handle _ h))
   hears_answer host smid (request.Ack event context) reply h = unless_resetting host smid _ h (frees_internal host smid h)
   hears_answer host smid request.Notification reply h = unless_resetting host smid _ h (asks_internal (posts.frees_internal host smid) request.PortEnable (frees_internal host smid h))
   hears_answer host smid request.PortEnable reply h = unless_resetting host smid _ h (frees_internal host smid h)
@@ -257,7 +262,7 @@ module _ (n : ℕ) where
   begins_late host stage.Look h = h
 
   ends_if_over : (host : Host) → Has host → Leaves (resets.ends_reset_if_over host)
-  ends_if_over host h = either Leaves (host.door_ready && resets.has_all_marks host) (resets.ends_reset host) (removal.quietly host) (begins_facts (resets.renewed host) h) h
+  ends_if_over host h = either Leaves (host.door_ready && resets.has_all_marks host) (resets.ends_reset host) (removal.quietly host) (begins_facts (resets.renewed host) (h.0, length-replicate 64 phase.Absent)) h
 
   -- ---- values
 

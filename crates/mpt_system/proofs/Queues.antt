@@ -1,4 +1,5 @@
--- The host has as many reply queues as there are lanes up, in every world that a list of cases leads to.
+-- The host has as many reply queues as there are lanes up, and a phase of each handle, in every world that a list of cases
+-- leads to.
 use Rattle.std.proofs.Common.{◌≡◌, ℕ, zero, suc, Bool, true, false, List, [], ◌∷◌, length, length-set, Option, Some, None, sym, ◌∙◌, subst}
 use Rattle.std.proofs.lemmas.List.{length-replicate}
 use Rattle.mpt_trace.specs.declared.choice.Choice.{Choice}
@@ -10,6 +11,7 @@ use Rattle.mpt_trace.specs.declared.item.Down.{Down}
 use Rattle.mpt_trace.specs.declared.item.Up.{Up}
 use Rattle.mpt_trace.specs.declared.item.Out.{Out}
 use Rattle.mpt_trace.specs.declared.item.Back.{Back}
+use Rattle.removal.specs.declared.phase.Phase.TheVariants as phase
 use Rattle.mpt_rules.specs.Fabric.Parts.{Fabric}
 use Rattle.mpt_rules.specs.Fabric.Calls.{announces, runs}
 use Rattle.mpt_rules.specs.Ioc.Parts.{Ioc}
@@ -23,18 +25,22 @@ use Rattle.mpt_system.proofs.HostQueues as host
 use Rattle.mpt_system.specs.Parties.{HasLanes}
 use Rattle.mpt_system.specs.Reached.{IsReached}
 
+abbrev IsSized : World → Type 0
+IsSized w = host.HasQueues (length w.up) w.host
+
 -- likewise after something happened
 abbrev Keeps : Happening World → Type 0
-Keeps o = HasLanes o.part
+Keeps o = IsSized o.part
 
-module _ (w : World) (h : HasLanes w) where
+module _ (w : World) (h : IsSized w) where
   host_put : (c : Choice) (items : List Down) → Keeps (moves_or_idles w c (move.host_puts w items))
   host_put c [] = h
   host_put c (next ∷ rest) = host.sends (length w.up) w.host h
 
   host_take : (c : Choice) (queue : ℕ) (items : List Up) → Keeps (moves_or_idles w c (move.host_takes w queue items))
   host_take c queue [] = h
-  host_take c queue (next ∷ rest) = host.takes_up (length w.up) w.host queue next h ∙ sym (length-set w.up queue rest)
+  host_take c queue (next ∷ rest) =
+      let taken = host.takes_up (length w.up) w.host queue next h in (taken.0 ∙ sym (length-set w.up queue rest), taken.1)
 
   take_above : (queue : ℕ) → Keeps (moves_or_idles w (choice.HostTakeOn queue) (move.host_takes_above w queue))
   take_above zero = h
@@ -58,7 +64,7 @@ module _ (w : World) (h : HasLanes w) where
 
   ioc_put : (c : Choice) (queue : ℕ) (o : Option Up) → Keeps (moves_or_idles w c (move.ioc_puts w queue o))
   ioc_put c queue None = h
-  ioc_put c queue (Some next) = h ∙ sym (length-set w.up queue _)
+  ioc_put c queue (Some next) = (h.0 ∙ sym (length-set w.up queue _), h.1)
 
   put_above : (queue : ℕ) → Keeps (moves_or_idles w (choice.IocPutOn queue) (move.ioc_puts_above w queue))
   put_above zero = h
@@ -80,7 +86,7 @@ module _ (w : World) (h : HasLanes w) where
   fabric_run c tag None fabric = h
   fabric_run c tag (Some address) fabric = h
 
-  chosen : (c : Choice) → HasLanes (happens w (Chosen c))
+  chosen : (c : Choice) → IsSized (happens w (Chosen c))
   chosen choice.HostPut = host_put choice.HostPut w.host.out
   chosen choice.HostTake = host_take choice.HostTake 0 (up_on w 0)
   chosen (choice.HostTakeOn queue) = take_above queue
@@ -96,7 +102,7 @@ module _ (w : World) (h : HasLanes w) where
   chosen choice.FabricPut = fabric_put choice.FabricPut w.fabric.out
   chosen (choice.FabricRun tag) = fabric_run (choice.FabricRun tag) tag (runs w.fabric tag).answer (runs w.fabric tag).part
 
-  told : (i : Input) → HasLanes (happens w (Told i))
+  told : (i : Input) → IsSized (happens w (Told i))
   told input.Start = host.is_told (length w.up) w.host input.Start h
   told (input.Submit n address form) = host.is_told (length w.up) w.host (input.Submit n address form) h
   told (input.Abort n) = host.is_told (length w.up) w.host (input.Abort n) h
@@ -106,29 +112,35 @@ module _ (w : World) (h : HasLanes w) where
   told (input.Plug address expander phy) = h
   told (input.Unplug address) = h
 
-  looked : (b : Bool) → length (looks_if b w.host).indices ≡ length w.up
+  looked : (b : Bool) → host.HasQueues (length w.up) (looks_if b w.host)
   looked true = host.looks (length w.up) w.host h
   looked false = h
 
-  stopped : (b : Bool) → length (stops_if b w.host).indices ≡ length w.up
+  stopped : (b : Bool) → host.HasQueues (length w.up) (stops_if b w.host)
   stopped true = h
   stopped false = h
 
   -- each case keeps it
-  kept : (c : Case) → HasLanes (happens w c)
+  kept : (c : Case) → IsSized (happens w c)
   kept (Told i) = told i
   kept (Chosen c) = chosen c
   kept HostLooks = looked (is_free w.host)
   kept HostStops = stopped (is_free w.host)
   kept FabricCalms = h
 
-run_keeps : (cases : List Case) (w : World) → HasLanes w → HasLanes (run w cases)
+run_keeps : (cases : List Case) (w : World) → IsSized w → IsSized (run w cases)
 run_keeps [] w h = h
 run_keeps (c ∷ cs) w h = run_keeps cs (happens w c) (kept w h c)
 
-first_has : (s : Setting) → HasLanes (first_world s)
-first_has s = length-replicate s.queues 0 ∙ sym (length-replicate s.queues [])
+first_has : (s : Setting) → IsSized (first_world s)
+first_has s = (length-replicate s.queues 0 ∙ sym (length-replicate s.queues []), length-replicate 64 phase.Absent)
 
 -- so it holds of every whole that is reached
+reached_sized : (w : World) (t : List Entry) → IsReached w t → IsSized w
+reached_sized w t r = subst IsSized (sym r.of_cases.reached) (run_keeps r.of_cases.cases (first_world r.setting) (first_has r.setting))
+
 pub reached_lanes : (w : World) (t : List Entry) → IsReached w t → HasLanes w
-reached_lanes w t r = subst HasLanes (sym r.of_cases.reached) (run_keeps r.of_cases.cases (first_world r.setting) (first_has r.setting))
+reached_lanes w t r = (reached_sized w t r).0
+
+pub reached_phases : (w : World) (t : List Entry) → IsReached w t → length w.host.phases ≡ 64
+reached_phases w t r = (reached_sized w t r).1

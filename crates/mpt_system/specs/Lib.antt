@@ -6,5 +6,6 @@ pub mod Making
 pub mod Steps
 pub mod Asking
 pub mod Turns
+pub mod Phases
 pub mod Places
 pub mod Weight

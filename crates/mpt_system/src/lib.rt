@@ -11,6 +11,7 @@ mod faults;
 mod inputs;
 mod making;
 mod parties;
+mod parts_summary;
 mod place;
 mod places;
 #[cfg(test)]
@@ -28,6 +29,7 @@ mod up_lanes;
 mod weight;
 mod works;
 
+pub use disk_machine::PartsSummary;
 pub use faults::{StepFault, SystemFault};
 pub use mpt_rules::OutOfMemory;
 pub use place::{FramePlace, SmidPlace};

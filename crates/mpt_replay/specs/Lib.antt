@@ -1,0 +1,4 @@
+-- What the contracts on schedules carried out say.
+pub mod Carrying
+pub mod Seen
+pub mod Reports

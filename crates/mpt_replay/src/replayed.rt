@@ -1,0 +1,80 @@
+//! A schedule that was carried out.
+ghost use Rattle.std.specs.Prelude.{◌≡◌, ◌≤◌, [], All, IfOk, length};
+ghost use Rattle.disk_machine.specs.Machine.{IsDiskSize};
+ghost use Rattle.mpt_replay.specs.Reports.{replay_of, system_summary};
+
+use crate::carrying::carry_out;
+use crate::head::Head;
+use disk_machine::{summaries_agree, summary_of_trace};
+use law_replays::schedules_keep_limits;
+use mpt_script::Schedule;
+use mpt_system::System;
+use mpt_text::OutOfMemory;
+use mpt_trace::{DiskSpec, Entry, Summary};
+use std::alloc::Global;
+use std::marker::Model;
+
+/// What happened as a schedule was carried out. A contract sees the entries of its trace and the
+/// summary.
+#[derive(Drop)]
+pub struct Replayed {
+    system: System,
+    summary: Summary,
+}
+
+impl Model for Replayed {
+    ghost use Rattle.std.specs.Prelude.{◌≡◌, []};
+    ghost use Rattle.mpt_replay.specs.Seen.{ReplaySeen};
+
+    ghost Value = { ReplaySeen };
+
+    ghost view = { λ r. record { entries = r.system.entries; summary = r.summary } };
+
+    ghost invariant = { λ r. r.system.pending ≡ [] };
+}
+
+impl Replayed {
+    /// Carries out a schedule from the first world of what its head declares; or OutOfMemory.
+    pub fn new(alloc: Global, schedule: &Schedule) -> Result<Replayed, OutOfMemory>
+        ensures { IfOk result (λ replayed. replayed ≡ replay_of schedule.now) }
+    {
+        let lines = schedule.lines();
+        // Each schedule is within the limits.
+        schedules_keep_limits();
+        let head = Head::of(alloc, lines)?;
+        let mut system = head.system(alloc)?;
+        carry_out(alloc, &mut system, lines)?;
+        let summary = system_summary(alloc, head.disks(), &system)?;
+        Ok(Replayed { system, summary })
+    }
+
+    /// The entries of the trace, the oldest first.
+    pub fn entries(&self) -> &[Entry]
+        ensures { result.now ≡ self.now.entries }
+    {
+        self.system.trace().as_slice()
+    }
+
+    /// The summary of the trace.
+    pub fn summary(&self) -> &Summary
+        ensures { result.now ≡ self.now.summary }
+    {
+        &self.summary
+    }
+}
+
+/// The summary of a system's trace, in which nothing is missing, with these disks; or OutOfMemory.
+pub fn system_summary(
+    alloc: Global,
+    disks: &[DiskSpec],
+    system: &System,
+) -> Result<Summary, OutOfMemory>
+    requires written { system.now.pending ≡ [] }
+    requires few { length disks.now ≤ 64 }
+    requires sizes { All IsDiskSize disks.now }
+    ensures { IfOk result (λ summary. summary ≡ system_summary disks.now system.now) }
+{
+    // What the parts say is what the rules say of their phases.
+    summaries_agree();
+    summary_of_trace(alloc, disks, system.trace().as_slice(), system.parts_summary())
+}
