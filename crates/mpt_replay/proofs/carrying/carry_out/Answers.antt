@@ -1,6 +1,6 @@
 use Rattle.std.proofs.Common.{◌≡◌, ◌+◌, List, ◌∷◌, drop, subst, sym, ap, ◌∙◌}
 use Rattle.std.specs.List.{cons_option}
-use Rattle.std.proofs.lemmas.List.{at_drop_more, drop_past}
+use Rattle.std.proofs.lemmas.List.{at_drop_more, drop_all}
 use Rattle.law_replays.specs.Schedules.{carried_in, lines_of}
 use Rattle.mpt_wire.specs.Fits.Lines.{Line}
 use Rattle.mpt_script.specs.declared.line.Line.{Line as ScriptLine}
@@ -43,4 +43,4 @@ returns c =
     let old = c.args.system.now in
     let lines = c.args.lines.now in
     all_carried_out old c.loop-line.system (lines_of lines)
-    (subst (λ r. CarriedOut old c.loop-line.system (lines_of lines) r) (ap lines_of (drop_past lines c.loop-line.line-index c.loop-line-test.false)) c.loop-line.invariant)
+    (subst (λ r. CarriedOut old c.loop-line.system (lines_of lines) r) (ap lines_of (drop_all c.loop-line.line-index lines c.loop-line-test.false)) c.loop-line.invariant)
