@@ -15,7 +15,8 @@ const SHOWN: &str = "bind 0009 A 1; up; ready A 0009";
 const READY: &str = "phases reading 0 ready 1 waiting 0 resetting 0 removing 0; state up quiet yes";
 
 /// The end of a report in which nothing was answered and no handle is anything.
-const NOTHING: &str = "answers done 0 gone 0 terminated 0 reset 0 refused 0 open 0; phases reading 0 ready 0 waiting 0 resetting 0 removing 0";
+const NOTHING: &str =
+    "answers done 0 gone 0 terminated 0 reset 0 refused 0 open 0; phases reading 0 ready 0 waiting 0 resetting 0 removing 0";
 
 // A text from one in short: its lines are parted by `; `, A and B are the addresses of two disks, and
 // PRELUDE, SHOWN, READY and NOTHING stand for their lines.
@@ -178,8 +179,7 @@ fn refuses_what_is_no_schedule(rt: HostRuntime) -> Result<(), Fail> {
         ),
         (many.as_str(), Status::TooLong, "too long\n"),
     ] {
-        let (ended, written) =
-            outcome(alloc, "show", input.as_bytes(), 4096, (NO_CALL, NO_CALL))?;
+        let (ended, written) = outcome(alloc, "show", input.as_bytes(), 4096, (NO_CALL, NO_CALL))?;
         assert_eq!(rt; ended, status, "{line}");
         assert_eq!(rt; written.as_slice(), line.as_bytes(), "{line}");
     }
@@ -206,14 +206,22 @@ fn ends_at_faults_of_schedules(rt: HostRuntime) -> Result<(), Fail> {
     for call in 0..10 {
         let (ended, written) = outcome(alloc, "show", schedule.as_bytes(), 7, (call, NO_CALL))?;
         assert_eq!(rt; ended, Status::ReadFault, "call {call}");
-        assert_eq!(rt; written.as_slice(), b"read fault\n".as_slice(), "call {call}");
+        assert_eq!(rt;
+            written.as_slice(),
+            b"read fault\n".as_slice(),
+            "call {call}"
+        );
     }
     let report = written_out(alloc, "NOTHING; state off quiet yes")?;
     for call in 0..6 {
         let failing = (NO_CALL, u32::try_from(call).map_err(|_| "too many")?);
         let (ended, written) = outcome(alloc, "show", b"", 5, failing)?;
         assert_eq!(rt; ended, Status::WriteFault, "call {call}");
-        assert_eq!(rt; written.as_slice(), front(report.as_bytes(), 5 * call)?, "call {call}");
+        assert_eq!(rt;
+            written.as_slice(),
+            front(report.as_bytes(), 5 * call)?,
+            "call {call}"
+        );
     }
     Ok(())
 }
@@ -250,7 +258,8 @@ fn has_text(report: &[u8], text: &str) -> Result<bool, Fail> {
 #[test]
 fn shows_parts_of_reports(rt: HostRuntime) -> Result<(), Fail> {
     let alloc = rt.alloc();
-    let commands = "PRELUDE; submit 1 A inquiry 64; submit 2 A capacity; submit 3 B tur; drain; submit 1 A tur";
+    let commands =
+        "PRELUDE; submit 1 A inquiry 64; submit 2 A capacity; submit 3 B tur; drain; submit 1 A tur";
     let (ended, written) = replayed(alloc, "show", commands)?;
     assert_eq!(rt; ended, Status::Ok);
     for line in [
@@ -302,7 +311,8 @@ fn four_disks_keep_their_blocks(rt: HostRuntime) -> Result<(), Fail> {
         let line = format!(in alloc; "\nanswer {n} done 00 512*{byte:02x} -\n")?;
         assert!(rt; has_text(&written, line.as_str())?, "{n}");
     }
-    let end = "\ndisk 5000c50000000001 at 0 0 sum 142224640\ndisk 5000c50000000002 at 0 1 sum 166474240\ndisk 5000c50000000003 at 0 2 sum 193345280\ndisk 5000c50000000004 at 0 3 sum 222837760\nanswers done 40 gone 0 terminated 0 reset 0 refused 0 open 0\nphases reading 0 ready 4 waiting 0 resetting 0 removing 0\nstate up quiet yes\n";
+    let end =
+        "\ndisk 5000c50000000001 at 0 0 sum 142224640\ndisk 5000c50000000002 at 0 1 sum 166474240\ndisk 5000c50000000003 at 0 2 sum 193345280\ndisk 5000c50000000004 at 0 3 sum 222837760\nanswers done 40 gone 0 terminated 0 reset 0 refused 0 open 0\nphases reading 0 ready 4 waiting 0 resetting 0 removing 0\nstate up quiet yes\n";
     assert!(rt; has_text(&written, end)?);
     Ok(())
 }
@@ -318,8 +328,14 @@ fn identifiers_run_out(rt: HostRuntime) -> Result<(), Fail> {
         let line = format!(in alloc; "accept {n} A {n}; ")?;
         push_lines(&mut report, line.as_str())?;
     }
-    push_lines(&mut schedule, "submit 257 A tur; host-put; ioc-take; ioc-normal; ioc-out; fabric-take; fabric-run 1; fabric-put; ioc-back; ioc-put; host-take; submit 257 A tur")?;
-    push_lines(&mut report, "refuse submit 257 no-identifier; run A 1; answer 1 done 00 - -; accept 257 A 1; disk A at 0 0 sum 0; answers done 1 gone 0 terminated 0 reset 0 refused 1 open 256; phases reading 0 ready 1 waiting 0 resetting 0 removing 0; state up quiet no")?;
+    push_lines(
+        &mut schedule,
+        "submit 257 A tur; host-put; ioc-take; ioc-normal; ioc-out; fabric-take; fabric-run 1; fabric-put; ioc-back; ioc-put; host-take; submit 257 A tur",
+    )?;
+    push_lines(
+        &mut report,
+        "refuse submit 257 no-identifier; run A 1; answer 1 done 00 - -; accept 257 A 1; disk A at 0 0 sum 0; answers done 1 gone 0 terminated 0 reset 0 refused 1 open 256; phases reading 0 ready 1 waiting 0 resetting 0 removing 0; state up quiet no",
+    )?;
     let (ended, written) = outcome(alloc, "show", schedule.as_bytes(), 4096, (NO_CALL, NO_CALL))?;
     assert_eq!(rt; ended, Status::Ok);
     assert_eq!(rt; written.as_slice(), report.as_bytes());

@@ -1,9 +1,11 @@
 -- Lines that are carried out one after the other.
 use Rattle.std.proofs.Common.{◌≡◌, ℕ, zero, suc, ◌+◌, ◌-◌, ◌<◌, List, [], ◌∷◌, ◌++◌, replicate, Option, Some, None, Result, Ok, Err, refl, sym, ap, ◌∙◌, subst, append-nil, arith, add-one}
-use Rattle.std.specs.Prelude.{IsErr}
+use Rattle.std.specs.Prelude.{IsErr, OnErr, OnOk}
 use Rattle.std.specs.List.{cons_option}
 use Rattle.std.proofs.lemmas.List.{replicate-append-replicate, replicate_more}
 use Rattle.mpt_trace.specs.declared.choice.Choice.{Choice}
+use Rattle.mpt_trace.specs.declared.entry.Entry.{Entry}
+use Rattle.mpt_trace.specs.declared.input.Input.{Input}
 use Rattle.mpt_wire.specs.Fits.Lines.{Asked, Asks, Drained, Line, LineTurn, Stepped, Steps, rounds, turns}
 use Rattle.mpt_rules.specs.Outcome.{Happening}
 use Rattle.mpt_rules.specs.World.Cases.{Chosen, Told, case_of}
@@ -16,6 +18,8 @@ use Rattle.law_replays.proofs.Turns.{drain_turned}
 use Rattle.mpt_system.proofs.Turns.{after_behind, after_nothing, halted_turn, none_turned, one_turn, so_far_behind, so_far_more, stays_so_far, turn_halted, turn_more}
 use Rattle.mpt_system.specs.Turns.{DrainedSoFar, HasTurned, TurnedSoFar}
 use Rattle.mpt_system.specs.Whole.{Halted, Stays, Whole, after}
+use Rattle.law_replays.specs.Schedules.{carried_in}
+use Rattle.mpt_script.specs.declared.line.Line.{Line as ScriptLine}
 use Rattle.mpt_replay.specs.Carrying.{CarriedOutSoFar, HasCarriedOut}
 use Rattle.mpt_replay.proofs.Lanes.{turns_keep}
 
@@ -56,7 +60,7 @@ one_line : (w : World) (x : Line) → replays w (x ∷ []) ≡ carries_out w x
 unfolding replays
 one_line w x = ap (with_told (carries_out w x).part) (append-nil (carries_out w x).entries)
   where
-    with_told : World → List _ → Happening World
+    with_told : World → List Entry → Happening World
     with_told v es = record { part = v; entries = es }
 
 -- a line, and others behind it
@@ -64,9 +68,13 @@ line_before : (s : Whole) (x : Line) (ls : List Line) → after s (replays s.wor
 unfolding replays
 line_before s x ls = after_behind s (carries_out s.world x) (replays (carries_out s.world x).part ls)
 
-no_lines : (s : Whole) → s.pending ≡ [] → s ≡ after s (replays s.world [])
+pub no_lines : (s : Whole) → s.pending ≡ [] → s ≡ after s (replays s.world [])
 unfolding replays
 no_lines s e = after_nothing s e
+
+-- a line of the head leaves what was there
+pub head_line : (s : Whole) (l : ScriptLine) → s.pending ≡ [] → carried_in l ≡ None → s ≡ after s (replays s.world (cons_option (carried_in l) []))
+head_line s l e head = no_lines s e ∙ ap (λ o. after s (replays s.world (cons_option o []))) (sym head)
 
 -- ---- memory was wanting
 
@@ -116,7 +124,7 @@ module _ (old now new : Whole) (lines rest : List Line) where
   -- one line more, if it is one that is carried out
   pub one_carried_out : (o : Option Line) → CarriedOut old now lines (cons_option o rest) → new ≡ after now (replays now.world (cons_option o [])) → CarriedOut old new lines rest
   one_carried_out None so e =
-      let same : now ≡ new = no_lines now so.written ∙ sym e in subst (λ x. CarriedOut old x lines rest) same so
+      let same : now ≡ new = no_lines now so.written ∙ sym e in subst (λ (x : Whole). CarriedOut old x lines rest) same so
   one_carried_out (Some x) so e =
       let at : new ≡ after now (carries_out now.world x) = e ∙ ap (after now) (one_line now.world x) in
       record {
@@ -140,18 +148,20 @@ module _ {A E : Type 0} where
   on_wanted old new lines (Ok done) e h = absurd (cc)
   on_wanted old new lines (Err error) e h = h
 
-  -- of an input
-  halted : (s new : Whole) (x : Line) (t : LineTurn) → turns (queues_of s.world) [] (x ∷ []) ≡ t ∷ [] → TurnedSoFar s (t ∷ []) new → CarriedOutSoFar s (x ∷ []) new
-  halted s new x t e h = record { drains = []; turned = subst (λ ts. TurnedSoFar s ts new) (sym e) h }
-
-pub input_so_far : (s new : Whole) (i : _) → Halted s (case_of s.world (Told i)) new → CarriedOutSoFar s (Asked i ∷ []) new
+-- of an input
+pub input_so_far : (s new : Whole) (i : Input) → Halted s (case_of s.world (Told i)) new → CarriedOutSoFar s (Asked i ∷ []) new
 input_so_far s new i h = record { drains = []; turned = halted_turn s new (Asks i) h }
 
-pub input_stays : (s new : Whole) (i : _) → Stays s new → CarriedOutSoFar s (Asked i ∷ []) new
+pub input_stays : (s new : Whole) (i : Input) → Stays s new → CarriedOutSoFar s (Asked i ∷ []) new
 input_stays s new i h = record { drains = []; turned = stays_so_far s new (Asks i ∷ []) h }
 
-pub input_carried_out : (s new : Whole) (i : _) → new ≡ after s (case_of s.world (Told i)) → new ≡ after s (replays s.world (Asked i ∷ []))
+pub input_carried_out : (s new : Whole) (i : Input) → new ≡ after s (case_of s.world (Told i)) → new ≡ after s (replays s.world (Asked i ∷ []))
 input_carried_out s new i e = e ∙ ap (after s) (sym (one_line s.world (Asked i)))
+
+pub input_told : {A E : Type 0} (s new : Whole) (i : Input) (r : Result A E) → OnOk r (new ≡ after s (case_of s.world (Told i))) → OnErr r (Halted s (case_of s.world (Told i)) new)
+    → HasCarriedOut s (Asked i ∷ []) r new
+input_told s new i (Ok done) ok err = input_carried_out s new i ok
+input_told s new i (Err error) ok err = input_so_far s new i err
 
 -- of a drain
 pub drain_so_far : (s new : Whole) → DrainedSoFar s new → CarriedOutSoFar s (Drained ∷ []) new

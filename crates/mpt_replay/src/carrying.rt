@@ -32,7 +32,9 @@ fn carry_out_line(alloc: Global, system: &mut System, line: &Line) -> Result<(),
     ensures { HasCarriedOut system.old (lines_of (line.now ∷ [])) result system.new }
 {
     match line {
-        Line::Queues(_) | Line::Disk(_) | Line::Expander { .. } => Ok(()),
+        Line::Queues(_) => Ok(()),
+        Line::Disk(_) => Ok(()),
+        Line::Expander { .. } => Ok(()),
         Line::Input(input) => tell(alloc, system, input),
         Line::Choice { choice, count } => make_steps(system, *choice, *count),
         Line::Drain => drain(system),
@@ -62,7 +64,8 @@ fn make_step(system: &mut System, choice: Choice) -> Result<(), OutOfMemory>
     ensures { HasTurned system.old (Steps choice ∷ []) result system.new }
 {
     match system.step(choice) {
-        Ok(_) | Err(StepFault::Idle) => Ok(()),
+        Ok(_) => Ok(()),
+        Err(StepFault::Idle) => Ok(()),
         Err(StepFault::OutOfMemory) => Err(OutOfMemory),
     }
 }

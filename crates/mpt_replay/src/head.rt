@@ -58,9 +58,11 @@ impl Head {
     {
         match System::with_queues(alloc, &self.disks, &self.phys, self.queues) {
             Ok(system) => Ok(system),
-            Err(SystemFault::OutOfMemory) => Err(OutOfMemory),
-            // What is within the limits isn't refused.
-            Err(_) => unreachable!(),
+            Err(fault) => match fault {
+                SystemFault::OutOfMemory => Err(OutOfMemory),
+                // What is within the limits isn't refused.
+                _ => unreachable!(),
+            },
         }
     }
 }

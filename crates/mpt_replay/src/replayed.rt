@@ -76,5 +76,10 @@ pub fn system_summary(
 {
     // What the parts say is what the rules say of their phases.
     summaries_agree();
-    summary_of_trace(alloc, disks, system.trace().as_slice(), system.parts_summary())
+    summary_of_trace(
+        alloc,
+        disks,
+        system.trace().as_slice(),
+        system.parts_summary(),
+    )
 }

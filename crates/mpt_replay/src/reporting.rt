@@ -1,5 +1,5 @@
 //! Reports as text.
-ghost use Rattle.std.specs.Prelude.{◌≡◌, ◌++◌, IfOk, OnOk, filter};
+ghost use Rattle.std.specs.Prelude.{◌≡◌, ◌++◌, [], ◌∷◌, IfOk, OnOk, filter};
 ghost use Rattle.mpt_trace.specs.Entries.{entry_line, entry_lines, is_in_show};
 ghost use Rattle.mpt_wire.specs.Machine.Reports.{report, short_report};
 ghost use Rattle.mpt_replay.specs.Reports.{schedule_report, schedule_short_report};
@@ -29,11 +29,7 @@ pub fn schedule_short_report(alloc: Global, schedule: &Schedule) -> Result<Text,
 }
 
 /// The report of a trace with this summary; or OutOfMemory.
-pub fn report_text(
-    alloc: Global,
-    entries: &[Entry],
-    summary: &Summary,
-) -> Result<Text, OutOfMemory>
+pub fn report_text(alloc: Global, entries: &[Entry], summary: &Summary) -> Result<Text, OutOfMemory>
     ensures { IfOk result (λ text. text ≡ report entries.now summary.now) }
 {
     let mut text = Text::new(alloc);

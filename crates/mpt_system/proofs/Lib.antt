@@ -7,3 +7,4 @@ pub mod PlaceLists
 pub mod Asked
 pub mod Turns
 pub mod RoundsMade
+pub mod Phases

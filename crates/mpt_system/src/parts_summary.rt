@@ -1,5 +1,5 @@
 //! What the parts say of themselves at the end of a report.
-ghost use Rattle.std.specs.Prelude.{◌≡◌, ◌<◌, ◌++◌, ◌∷◌, Bool, List, length};
+ghost use Rattle.std.specs.Prelude.{◌≡◌, ◌++◌, [], ◌∷◌, Bool, List, length};
 ghost use Rattle.removal.specs.declared.phase.Phase.{Phase};
 ghost use Rattle.disk_machine.specs.Summary.{parts_with};
 ghost use Rattle.mpt_rules.specs.World.Drain.{world_quiet};

@@ -18,10 +18,10 @@ loop-line-preserved c =
     let old = c.args.system.now in
     let lines = c.args.lines.now in
     let i = c.loop-line.line-index in
-    let x = c.loop-line-item.result in
+    let x = c.line-item.result in
     let rest : List Line = lines_of (drop (i + 1) lines) in
     let left : lines_of (drop i lines) ≡ cons_option (carried_in x) rest =
-    at_drop_more lines_of lines i x c.loop-line-test.true ∙ ap (λ (y : ScriptLine). lines_of (y ∷ drop (i + 1) lines)) (sym c.loop-line-item.is) in
+    at_drop_more lines_of lines i x c.loop-line-test.true ∙ ap (λ (y : ScriptLine). lines_of (y ∷ drop (i + 1) lines)) (sym c.line-item.is) in
     one_carried_out old c.loop-line.system c.carry_out_line.new.system (lines_of lines) rest (carried_in x)
     (subst (λ r. CarriedOut old c.loop-line.system (lines_of lines) r) left c.loop-line.invariant) c.in_ok-carry_out_line.ensures
 
@@ -30,10 +30,10 @@ returns-in_err-carry_out_line c =
     let old = c.args.system.now in
     let lines = c.args.lines.now in
     let i = c.loop-line.line-index in
-    let x = c.loop-line-item.result in
+    let x = c.line-item.result in
     let rest : List Line = lines_of (drop (i + 1) lines) in
     let left : lines_of (drop i lines) ≡ cons_option (carried_in x) rest =
-    at_drop_more lines_of lines i x c.loop-line-test.true ∙ ap (λ (y : ScriptLine). lines_of (y ∷ drop (i + 1) lines)) (sym c.loop-line-item.is) in
+    at_drop_more lines_of lines i x c.loop-line-test.true ∙ ap (λ (y : ScriptLine). lines_of (y ∷ drop (i + 1) lines)) (sym c.line-item.is) in
     on_wanted old c.carry_out_line.new.system (lines_of lines) c.from_residual.result c.from_residual.ensures.0
     (one_so_far old c.loop-line.system c.carry_out_line.new.system (lines_of lines) rest (carried_in x)
     (subst (λ r. CarriedOut old c.loop-line.system (lines_of lines) r) left c.loop-line.invariant) c.in_err-carry_out_line.ensures)

@@ -3,4 +3,4 @@ use Rattle.mpt_replay.proofs.reporting.short_report_text.Goals as goal
 
 pub loop-entry-preserved : goal.loop-entry-preserved
 loop-entry-preserved c =
-    shown_more c.args.entries.now c.loop-entry.entry-index c.loop-entry-item.result c.loop-entry.text c.push_shown.new.text c.loop-entry-test.true c.loop-entry-item.is c.loop-entry.invariant c.in_ok-push_shown.ensures
+    shown_more c.args.entries.now c.loop-entry.entry-index c.entry-item.result c.loop-entry.text c.push_shown.new.text c.loop-entry-test.true c.entry-item.is c.loop-entry.invariant c.in_ok-push_shown.ensures

@@ -1,0 +1,14 @@
+use Rattle.std.proofs.Common.{◌≡◌, ap, subst, ◌∙◌}
+use Rattle.mpt_rules.specs.World.Settings.{Setting}
+use Rattle.mpt_system.specs.Making.{IsCause, system_refusal}
+use Rattle.mpt_replay.proofs.Heads.{only_memory}
+use Rattle.mpt_replay.proofs.head.Head.system.Goals as goal
+
+pub unreachable-requires : goal.unreachable-requires
+unreachable-requires c =
+    let s = c.args.self.now in
+    let fault = c.in-Err.fault in
+    let disks : c.deref.result.now ≡ s.disks = c.deref.ensures.value ∙ ap (λ (x : Setting). x.disks) c.self.view_is in
+    let phys : c.deref-2.result.now ≡ s.phys = c.deref-2.ensures.value ∙ ap (λ (x : Setting). x.phys) c.self.view_is in
+    let cause = subst (λ ds. IsCause (system_refusal ds s.phys) fault) disks (subst (λ ps. IsCause (system_refusal c.deref.result.now ps) fault) phys c.in-Err.ensures.refused) in
+    c.in_default.not-OutOfMemory (only_memory s fault c.requires cause)
