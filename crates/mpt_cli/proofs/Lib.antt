@@ -2,3 +2,4 @@ pub mod Due
 pub mod FramesRead
 pub mod InputLength
 pub mod Limits
+pub mod ReportAnswers

@@ -1,6 +1,10 @@
 -- What is printed of an input that was read whole.
-use Rattle.std.specs.Prelude.{◌≡◌, ℕ, ◌<◌, ◌≤◌, List, ◌++◌, length, codes, Option, Some, None}
+use Rattle.std.specs.Prelude.{◌≡◌, ℕ, ◌<◌, ◌≤◌, List, ◌++◌, length, codes, decimal, Option, Some, None, Result, Ok, Err}
 use Rattle.mpt_text.specs.Hexadecimal.{hexadecimal}
+use Rattle.mpt_lines.specs.Causes.{cause_word}
+use Rattle.mpt_script.specs.Schedules.{Fault as ScheduleFault, schedule_of}
+use Rattle.mpt_script.specs.declared.line.Line.{Line as ScriptLine}
+use Rattle.mpt_replay.specs.Reports.{schedule_report, schedule_short_report}
 use Rattle.mpi_layout.specs.Rows.{first_fault}
 use Rattle.mpi_layout.specs.declared.fault.Fault.{Fault}
 use Rattle.mpi_rings.specs.declared.reply_descriptor.ReplyDescriptor.{ReplyDescriptor}
@@ -17,8 +21,10 @@ use Rattle.mpt_messages.specs.Refusal.{IsOfKind, reply_refusal, request_refusal}
 use Rattle.mpt_messages.specs.RefusalListing.{reply_refusal_text, request_refusal_text}
 use Rattle.mpt_messages.specs.Listing.{fault_text, line_end}
 use Rattle.mpt_cli.specs.declared.answer.TheConstants.{MOST_LINES}
-use Rattle.mpt_cli.specs.declared.command.Decoded.{Decoded}
-use Rattle.mpt_cli.specs.declared.command.Decoded.TheVariants as decoded
+use Rattle.mpt_cli.specs.declared.job.Decoded.{Decoded}
+use Rattle.mpt_cli.specs.declared.job.Decoded.TheVariants as decoded
+use Rattle.mpt_cli.specs.declared.job.Question.{Question}
+use Rattle.mpt_cli.specs.declared.job.Question.TheVariants as question
 use Rattle.mpt_cli.specs.declared.status.Status.{Status}
 use Rattle.mpt_cli.specs.declared.status.Status.TheVariants as status
 use Rattle.mpt_messages.specs.DescriptorListing.{page_listing, reply_descriptor_listing, request_descriptor_listing}
@@ -92,11 +98,27 @@ IsHexAnswer what None status.Refused text = text ≡ codes "refused line 1 hex" 
 IsHexAnswer what None _ text = ⊥
 IsHexAnswer what (Some bytes) ended text = IsBytesAnswer what bytes ended text
 
+-- the line of a schedule's refusal: its first faulty line and that line's first cause
+abbrev pub schedule_refusal : ScheduleFault → List ℕ
+schedule_refusal fault = codes "refused line " ++ decimal fault.line ++ codes " " ++ cause_word fault.cause ++ line_end
+
+-- the answer to a text that is read as a schedule: this report of it, or the line of its refusal
+abbrev pub IsReportAnswer : (List ScriptLine → List ℕ) → Result (List ScriptLine) ScheduleFault → Status → List ℕ → Type 0
+IsReportAnswer report_of (Ok lines) status.Ok text = text ≡ report_of lines
+IsReportAnswer report_of (Err fault) status.Refused text = text ≡ schedule_refusal fault
+IsReportAnswer report_of _ _ text = ⊥
+
+-- the answer to what is asked of an input
+abbrev pub IsAnswerTo : Question → List ℕ → Status → List ℕ → Type 0
+IsAnswerTo (question.Decode what) input ended text = IsHexAnswer what (hexadecimal input) ended text
+IsAnswerTo question.Replay input ended text = IsReportAnswer schedule_report (schedule_of input) ended text
+IsAnswerTo question.Show input ended text = IsReportAnswer schedule_short_report (schedule_of input) ended text
+
 -- the line of an input that is too long
 abbrev pub too_long_text : List ℕ
 too_long_text = codes "too long" ++ line_end
 
--- the answer to the whole input of `decode`
-abbrev pub IsAnswer : Decoded → List ℕ → Status → List ℕ → Type 0
+-- the answer to the whole input
+abbrev pub IsAnswer : Question → List ℕ → Status → List ℕ → Type 0
 IsAnswer what input status.TooLong text = (MOST_LINES < line_count input) × (text ≡ too_long_text)
-IsAnswer what input ended text = (line_count input ≤ MOST_LINES) × IsHexAnswer what (hexadecimal input) ended text
+IsAnswer what input ended text = (line_count input ≤ MOST_LINES) × IsAnswerTo what input ended text

@@ -1,4 +1,4 @@
-pub mod Command
+pub mod Job
 pub mod Input
 pub mod ScatterInput
 pub mod Answer

@@ -6,10 +6,10 @@ use Rattle.mpt_outside.specs.Reading.{Came}
 use Rattle.mpt_messages.specs.Listing.{line_end}
 use Rattle.mpt_script.specs.Generator.{generated}
 use Rattle.mpt_script.specs.Printed.{schedule_text}
-use Rattle.mpt_cli.specs.declared.command.Command.{Command}
-use Rattle.mpt_cli.specs.declared.command.Command.TheVariants.{Decode, Gen}
-use Rattle.mpt_cli.specs.declared.command.Decoded.{Decoded}
 use Rattle.mpt_cli.specs.declared.answer.TheConstants.{MOST_LINES}
+use Rattle.mpt_cli.specs.declared.job.Job.{Job}
+use Rattle.mpt_cli.specs.declared.job.Job.TheVariants as job
+use Rattle.mpt_cli.specs.declared.job.Question.{Question}
 use Rattle.mpt_cli.specs.declared.run.TheConstants.{MOST_BYTES}
 use Rattle.mpt_cli.specs.declared.status.Status.{Status}
 use Rattle.mpt_cli.specs.declared.status.Status.TheVariants as status
@@ -102,8 +102,8 @@ pub record TooLongIsDue (o : Outside) (text : List ℕ) : Type 0 where
   pub long : TooLongInput o input
   pub said : text ≡ too_long_text
 
--- Ok or Refused is due, by the answer to the whole input of `decode`
-pub record AnswerIsDue (what : Decoded) (o : Outside) (due : Status) (text : List ℕ) : Type 0 where
+-- Ok or Refused is due, by the answer to the whole input
+pub record AnswerIsDue (what : Question) (o : Outside) (due : Status) (text : List ℕ) : Type 0 where
   pub input : List ℕ
   pub whole : IsInput o input
   pub said : IsAnswer what input due text
@@ -114,13 +114,13 @@ pub record ScheduleIsDue (number : ℕ) (o : Outside) (text : List ℕ) : Type 0
   pub said : text ≡ schedule_text 0 (generated number)
 
 -- the text that goes with a status, and the status's cause
-abbrev pub IsDue : Option Command → Outside → Status → List ℕ → Type 0
+abbrev pub IsDue : Option Job → Outside → Status → List ℕ → Type 0
 IsDue None o status.Usage text = UsageIsDue o text
-IsDue (Some (Decode what)) o status.ReadFault text = ReadFaultIsDue o text
-IsDue (Some (Decode what)) o status.TooLong text = TooLongIsDue o text
-IsDue (Some (Decode what)) o status.Refused text = AnswerIsDue what o status.Refused text
-IsDue (Some (Decode what)) o status.Ok text = AnswerIsDue what o status.Ok text
-IsDue (Some (Gen number)) o status.Ok text = ScheduleIsDue number o text
+IsDue (Some (job.Answer what)) o status.ReadFault text = ReadFaultIsDue o text
+IsDue (Some (job.Answer what)) o status.TooLong text = TooLongIsDue o text
+IsDue (Some (job.Answer what)) o status.Refused text = AnswerIsDue what o status.Refused text
+IsDue (Some (job.Answer what)) o status.Ok text = AnswerIsDue what o status.Ok text
+IsDue (Some (job.Gen number)) o status.Ok text = ScheduleIsDue number o text
 IsDue _ o _ text = ⊥
 
 -- the sink took the whole text, and the run ends with the status that is due
@@ -148,20 +148,20 @@ Generates taken taken' faults faults' number ended =
     ((ended ≡ status.OutOfMemory) × Keeps taken taken')
     ⊎ Writes taken taken' faults faults' status.Ok (schedule_text 0 (generated number)) ended
 
--- the run of a known command ends for want of memory: nothing was written, and no read failed
-pub record WantsMemory (command : Option Command) (o : Outside) (ended : Status) : Type 0 where
+-- the run of a known job ends for want of memory: nothing was written, and no read failed
+pub record WantsMemory (asked : Option Job) (o : Outside) (ended : Status) : Type 0 where
   pub ends : ended ≡ status.OutOfMemory
-  pub known : command ≢ None
+  pub known : asked ≢ None
   pub silent : Keeps o.taken o.taken'
   pub spared : NoReadFailed o
 
 -- the run ends with the writing of a text that is due
-pub record WritesDue (command : Option Command) (o : Outside) (ended : Status) : Type 0 where
+pub record WritesDue (asked : Option Job) (o : Outside) (ended : Status) : Type 0 where
   pub due : Status
   pub text : List ℕ
-  pub cause : IsDue command o due text
+  pub cause : IsDue asked o due text
   pub writes : Writes o.taken o.taken' o.write_faults o.write_faults' due text ended
 
 -- what a run of these words comes to
-abbrev pub RunsTo : Option Command → Outside → Status → Type 0
-RunsTo command o ended = WantsMemory command o ended ⊎ WritesDue command o ended
+abbrev pub RunsTo : Option Job → Outside → Status → Type 0
+RunsTo asked o ended = WantsMemory asked o ended ⊎ WritesDue asked o ended

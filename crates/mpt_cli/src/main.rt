@@ -1,19 +1,22 @@
-//! The command line: decodes one message, descriptor, page or scatter list from hexadecimal, or prints
-//! a schedule.
+//! The command line: decodes one message, descriptor, page or scatter list from hexadecimal, carries out
+//! a schedule and prints what happened, or prints a schedule.
 #![tactic(auto)]
 
 mod answer;
-mod command;
 mod decode;
 mod input;
+mod job;
+mod replay;
+#[cfg(test)]
+mod replay_tests;
 mod run;
 mod scatter_input;
 mod status;
 #[cfg(test)]
 mod tests;
 
-use command::words_of;
-pub use command::{Command, Decoded};
+use job::words_of;
+pub use job::{Decoded, Job, Question};
 use mpt_outside::{StdSink, StdSource};
 use mpt_text::OutOfMemory;
 pub use run::run;

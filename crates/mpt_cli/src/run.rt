@@ -2,11 +2,11 @@
 ghost use Rattle.std.specs.Prelude.{◌≡◌, map, string_bytes, IfOk, Some};
 ghost use Rattle.mpt_script.specs.Generator.{generated};
 ghost use Rattle.mpt_script.specs.Printed.{schedule_text};
-ghost use Rattle.mpt_cli.specs.Command.{command_of};
+ghost use Rattle.mpt_cli.specs.Job.{job_of};
 ghost use Rattle.mpt_cli.specs.Run.{Generates, RunsTo, Writes, seen_between};
 
 use crate::answer::answer_to;
-use crate::command::{Command, Decoded};
+use crate::job::{Job, Question};
 use crate::status::Status;
 use mpt_outside::{Failed, ReadFault, Sink, Source, read_all, write_all};
 use mpt_script::{generate, print_schedule};
@@ -26,24 +26,24 @@ pub fn run<S: Source, K: Sink>(
     source: &mut S,
     sink: &mut K,
 ) -> Status
-    ensures { RunsTo (command_of (map string_bytes words.now))
+    ensures { RunsTo (job_of (map string_bytes words.now))
         (seen_between S.left S.given S.faults K.taken K.faults source.old source.new sink.old sink.new) result }
 {
-    match Command::from_words(words) {
+    match Job::from_words(words) {
         None => finish(sink, Status::Usage, USAGE),
-        Some(Command::Decode(decoded)) => run_decode(alloc, decoded, source, sink),
-        Some(Command::Gen(number)) => run_gen(alloc, number, sink),
+        Some(Job::Answer(question)) => run_answer(alloc, question, source, sink),
+        Some(Job::Gen(number)) => run_gen(alloc, number, sink),
     }
 }
 
-// Reads the whole input and writes its listing or its refusal.
-fn run_decode<S: Source, K: Sink>(
+// Reads the whole input and writes the answer to it.
+fn run_answer<S: Source, K: Sink>(
     alloc: Global,
-    decoded: Decoded,
+    question: Question,
     source: &mut S,
     sink: &mut K,
 ) -> Status
-    ensures { RunsTo (Some (Command.Decode decoded))
+    ensures { RunsTo (Some (Job.Answer question))
         (seen_between S.left S.given S.faults K.taken K.faults source.old source.new sink.old sink.new) result }
 {
     let input = match read_all(alloc, source, MOST_BYTES) {
@@ -52,7 +52,7 @@ fn run_decode<S: Source, K: Sink>(
         Err(ReadFault::TooLong) => return finish(sink, Status::TooLong, b"too long\n"),
         Err(ReadFault::OutOfMemory) => return Status::OutOfMemory,
     };
-    match answer_to(alloc, decoded, &input) {
+    match answer_to(alloc, question, &input) {
         Ok(answer) => finish(sink, answer.status, answer.text.as_bytes()),
         Err(_) => Status::OutOfMemory,
     }

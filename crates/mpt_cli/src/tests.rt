@@ -60,7 +60,7 @@ const LISTING: &str = "scsi-io 108
 
 const USAGE_LINE: &str = "usage: mpt_cli decode <kind> | replay | show | gen <number>\n";
 
-const NO_CALL: u32 = 4_000_000_000;
+pub const NO_CALL: u32 = 4_000_000_000;
 
 fn words_of(alloc: Global, line: &str) -> Result<Vec<String>, AllocError> {
     let mut words = Vec::new(alloc);
@@ -74,7 +74,7 @@ fn words_of(alloc: Global, line: &str) -> Result<Vec<String>, AllocError> {
 
 // How a run ends and what was written, where the source and the sink move `piece` bytes at a time
 // and fail at these calls.
-fn outcome(
+pub fn outcome(
     alloc: Global,
     line: &str,
     input: &[u8],
@@ -89,7 +89,7 @@ fn outcome(
     let mut writes = Vec::new(alloc);
     writes.push(failing.1)?;
     let mut source = MemorySource::new(input.to_vec(alloc)?, piece, reads);
-    let mut sink = MemorySink::new(alloc, piece, 65_536, writes).map_err(|_| "no memory")?;
+    let mut sink = MemorySink::new(alloc, piece, 1_048_576, writes).map_err(|_| "no memory")?;
     let status = run(alloc, &words, &mut source, &mut sink);
     Ok((status, sink.bytes().to_vec(alloc)?))
 }

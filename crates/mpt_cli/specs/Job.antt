@@ -3,10 +3,11 @@ use Rattle.std.specs.Prelude.{ℕ, List, [], ◌∷◌, bytes_eq, Option, Some, 
 use Rattle.std.specs.Option.{option_map}
 use Rattle.mpt_lines.specs.Numbers.{word_number}
 use Rattle.mpt_messages.specs.declared.function.Kind.TheVariants as kind
-use Rattle.mpt_cli.specs.declared.command.Command.{Command}
-use Rattle.mpt_cli.specs.declared.command.Command.TheVariants.{Decode, Gen}
-use Rattle.mpt_cli.specs.declared.command.Decoded.{Decoded}
-use Rattle.mpt_cli.specs.declared.command.Decoded.TheVariants as decoded
+use Rattle.mpt_cli.specs.declared.job.Decoded.{Decoded}
+use Rattle.mpt_cli.specs.declared.job.Decoded.TheVariants as decoded
+use Rattle.mpt_cli.specs.declared.job.Job.{Job}
+use Rattle.mpt_cli.specs.declared.job.Job.TheVariants as job
+use Rattle.mpt_cli.specs.declared.job.Question.TheVariants as question
 
 -- what a word after `decode` names
 abbrev pub decoded_of : List ℕ → Option Decoded
@@ -22,10 +23,17 @@ decoded_of word =
     else if bytes_eq word (codes "sgl") then Some decoded.ScatterList
     else None
 
--- the command that the words name
-abbrev pub command_of : List (List ℕ) → Option Command
-command_of (first ∷ second ∷ []) =
-    if bytes_eq first (codes "decode") then option_map Decode (decoded_of second)
-    else if bytes_eq first (codes "gen") then option_map Gen (word_number second)
+abbrev pub decode_job : Decoded → Job
+decode_job what = job.Answer (question.Decode what)
+
+-- the job that the words name
+abbrev pub job_of : List (List ℕ) → Option Job
+job_of (word ∷ []) =
+    if bytes_eq word (codes "replay") then Some (job.Answer question.Replay)
+    else if bytes_eq word (codes "show") then Some (job.Answer question.Show)
     else None
-command_of _ = None
+job_of (first ∷ second ∷ []) =
+    if bytes_eq first (codes "decode") then option_map decode_job (decoded_of second)
+    else if bytes_eq first (codes "gen") then option_map job.Gen (word_number second)
+    else None
+job_of _ = None

@@ -1,6 +1,7 @@
 //! The words of the command line.
 ghost use Rattle.std.specs.Prelude.{◌≡◌, drop, map, string_bytes};
-ghost use Rattle.mpt_cli.specs.Command.{command_of, decoded_of};
+ghost use Rattle.std.specs.Option.{option_map};
+ghost use Rattle.mpt_cli.specs.Job.{decode_job, decoded_of, job_of};
 
 use mpt_lines::word_number;
 use mpt_messages::Kind;
@@ -42,29 +43,50 @@ impl Decoded {
     }
 }
 
-/// What the words ask for.
+/// What is asked of an input.
 #[derive(Clone, Copy, Debug, PartialEq, Eq)]
-pub enum Command {
+pub enum Question {
     /// `decode <kind>`: the fields of one message, descriptor or page, or a scatter list.
     Decode(Decoded),
+    /// `replay`: the report of a schedule.
+    Replay,
+    /// `show`: the short report of a schedule.
+    Show,
+}
+
+/// What the words ask for.
+#[derive(Clone, Copy, Debug, PartialEq, Eq)]
+pub enum Job {
+    /// `decode <kind>`, `replay`, `show`: the answer to the input.
+    Answer(Question),
     /// `gen <number>`: the schedule of this number.
     Gen(u64),
 }
 
-impl Command {
-    /// The command that the words name, or none where they are none of the listed forms.
-    pub fn from_words(words: &[String]) -> Option<Command>
-        ensures { result ≡ command_of (map string_bytes words.now) }
+impl Job {
+    /// The job that the words name, or none where they are none of the listed forms.
+    pub fn from_words(words: &[String]) -> Option<Job>
+        ensures { result ≡ job_of (map string_bytes words.now) }
     {
         match words {
-            [first, second] if first.as_str() == "decode" => {
-                Decoded::from_word(second.as_str()).map(Command::Decode)
-            }
+            [word] if word.as_str() == "replay" => Some(Job::Answer(Question::Replay)),
+            [word] if word.as_str() == "show" => Some(Job::Answer(Question::Show)),
+            [first, second] if first.as_str() == "decode" => decode_job(second.as_str()),
             [first, second] if first.as_str() == "gen" => {
-                word_number(second.as_bytes()).map(Command::Gen)
+                word_number(second.as_bytes()).map(Job::Gen)
             }
             _ => None,
         }
+    }
+}
+
+// To decode what the word names, or none.
+fn decode_job(word: &str) -> Option<Job>
+    ensures { result ≡ option_map decode_job (decoded_of word.now) }
+{
+    match Decoded::from_word(word) {
+        Some(decoded) => Some(Job::Answer(Question::Decode(decoded))),
+        None => None,
     }
 }
 
