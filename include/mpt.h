@@ -21,9 +21,11 @@ typedef enum mpt_code {
     MPT_OK = 0,           /* it did what it is for */
     MPT_NULL = 1,         /* a pointer is null that may not be; nothing changed */
     MPT_NO_SUCH = 2,      /* a number that the call was given names nothing; nothing changed */
-    MPT_REFUSED = 3,      /* the bytes are refused */
+    MPT_REFUSED = 3,      /* the bytes are refused, or what is asked for; of a handle nothing changed */
     MPT_SHORT_BUFFER = 4, /* the buffer is too short, and stays; the call says how long it has to be */
-    MPT_NO_MEMORY = 5     /* there was no memory left; nothing changed */
+    MPT_NO_MEMORY = 5,    /* there was no memory left; nothing changed */
+    MPT_NOTHING = 6,      /* there is nothing that the call could do; nothing changed */
+    MPT_EMPTY = 7         /* the handle is empty */
 } mpt_code;
 
 /* What bytes are read as: a request by the way that it travels, a reply, a descriptor or a page. */
@@ -81,6 +83,218 @@ static inline mpt_code mpt_list(mpt_form form, const void *bytes, size_t size, c
     if (!bytes || !text || !length)
         return MPT_NULL;
     return (mpt_code)mpt_raw_list((uint32_t)form, (const uint8_t *)bytes, size, (uint8_t *)text, room, length);
+}
+
+/*
+ * Handles. Each is a pointer in memory of the caller's, which begins as MPT_EMPTY and is filled by its _new and emptied
+ * by its _free. A call on one that is empty answers MPT_EMPTY. A handle isn't copied, its pointer is neither read nor
+ * written, and it is used by one call at a time and on one thread.
+ */
+#define MPT_EMPTY_HANDLE {NULL}
+
+typedef struct mpt_ioc {
+    void *inside;
+} mpt_ioc;
+
+typedef struct mpt_fabric {
+    void *inside;
+} mpt_fabric;
+
+/* What the controller puts for the host. */
+typedef enum mpt_up_kind {
+    MPT_UP_VALUE = 1, /* the value of the register that was read */
+    MPT_UP_REPLY = 2, /* a reply descriptor, with its frame where it is an address reply, and the data that moved */
+    MPT_UP_MARK = 3,  /* on a queue above 0: the last reply before a reset stands before this */
+    MPT_UP_CALM = 4   /* the controller is quiet; only in threaded sessions */
+} mpt_up_kind;
+
+typedef struct mpt_up_head {
+    uint64_t descriptor;   /* MPI2_REPLY_DESCRIPTORS_UNION as a number: its byte 0 is the lowest */
+    uint32_t kind;         /* an mpt_up_kind */
+    uint32_t value;        /* of a register, or the generation of a mark */
+    uint32_t has_frame;    /* 1 where frame is the reply's */
+    uint32_t page_length;  /* so many bytes of page moved: what a command read, or a configuration page */
+    uint32_t sense_length; /* so many bytes of sense moved */
+} mpt_up_head;
+
+typedef struct mpt_up {
+    mpt_up_head head;
+    uint8_t frame[128];
+    uint8_t page[4096];
+    uint8_t sense[4096];
+} mpt_up;
+
+/* A disk of the fabric, all zeros at first. */
+typedef struct mpt_disk {
+    uint64_t address; /* its SAS address */
+    uint16_t blocks;  /* of 512 bytes, 1 to 1024 */
+} mpt_disk;
+
+typedef char mpt_layouts[sizeof(mpt_ioc) == 8 && sizeof(mpt_fabric) == 8 && sizeof(mpt_up_head) == 32
+    && offsetof(mpt_up_head, sense_length) == 24 && sizeof(mpt_disk) == 16 && offsetof(mpt_disk, blocks) == 8 ? 1 : -1];
+
+uint32_t mpt_raw_ioc_new(mpt_ioc *ioc, const uint8_t *phys, size_t expanders, uint8_t queues);
+void mpt_raw_ioc_free(mpt_ioc *ioc);
+uint32_t mpt_raw_ioc_write(mpt_ioc *ioc, uint16_t reg, uint32_t value);
+uint32_t mpt_raw_ioc_read(mpt_ioc *ioc, uint16_t reg);
+uint32_t mpt_raw_ioc_post(mpt_ioc *ioc, uint64_t descriptor, const uint8_t *frame, const uint8_t *data, size_t size);
+uint32_t mpt_raw_ioc_return(mpt_ioc *ioc, uint32_t address, uint16_t index);
+uint32_t mpt_raw_ioc_step_high(mpt_ioc *ioc);
+uint32_t mpt_raw_ioc_step(mpt_ioc *ioc);
+uint32_t mpt_raw_ioc_up(mpt_ioc *ioc, uint8_t queue, mpt_up_head *head, uint8_t *frame, uint8_t *page, size_t page_room,
+    uint8_t *sense, size_t sense_room);
+uint32_t mpt_raw_fabric_new(mpt_fabric *fabric, const mpt_disk *disks, size_t count, const uint8_t *phys, size_t expanders);
+void mpt_raw_fabric_free(mpt_fabric *fabric);
+uint32_t mpt_raw_fabric_plug(mpt_fabric *fabric, uint64_t address, uint8_t expander, uint8_t phy);
+uint32_t mpt_raw_fabric_unplug(mpt_fabric *fabric, uint64_t address);
+uint32_t mpt_raw_fabric_oldest(mpt_fabric *fabric, uint16_t *tag);
+uint32_t mpt_raw_fabric_run(mpt_fabric *fabric, uint16_t tag, uint64_t *address);
+uint32_t mpt_raw_fabric_announce(mpt_fabric *fabric);
+uint32_t mpt_raw_fabric_take(mpt_fabric *fabric, mpt_ioc *ioc);
+uint32_t mpt_raw_fabric_give(mpt_fabric *fabric, mpt_ioc *ioc);
+
+/* A pointer to no bytes, for a caller that has none. */
+static inline const uint8_t *mpt_bytes(const void *bytes, size_t size)
+{
+    return bytes || size ? (const uint8_t *)bytes : (const uint8_t *)"";
+}
+
+/*
+ * Makes a controller in the state READY, with so many reply post queues, 1 to 8, and expanders, at most 16, with so many
+ * phys each. A controller that was in the handle is freed. MPT_NO_SUCH where a number is out of range.
+ */
+static inline mpt_code mpt_ioc_new(mpt_ioc *ioc, const uint8_t *phys, size_t expanders, uint8_t queues)
+{
+    phys = mpt_bytes(phys, expanders);
+    return ioc && phys ? (mpt_code)mpt_raw_ioc_new(ioc, phys, expanders, queues) : MPT_NULL;
+}
+
+/* Frees the controller and empties the handle. An empty handle stays so. */
+static inline void mpt_ioc_free(mpt_ioc *ioc)
+{
+    if (ioc)
+        mpt_raw_ioc_free(ioc);
+}
+
+/* The host writes the register at an offset (MPI2_SYSTEM_INTERFACE_REGS). MPT_NO_SUCH past 0xffff. */
+static inline mpt_code mpt_ioc_write(mpt_ioc *ioc, uint32_t offset, uint32_t value)
+{
+    if (!ioc)
+        return MPT_NULL;
+    return offset > 0xffff ? MPT_NO_SUCH : (mpt_code)mpt_raw_ioc_write(ioc, (uint16_t)offset, value);
+}
+
+/* The host reads the register at an offset: its value comes up on queue 0, behind the replies that wait there. */
+static inline mpt_code mpt_ioc_read(mpt_ioc *ioc, uint32_t offset)
+{
+    if (!ioc)
+        return MPT_NULL;
+    return offset > 0xffff ? MPT_NO_SUCH : (mpt_code)mpt_raw_ioc_read(ioc, (uint16_t)offset);
+}
+
+/*
+ * The host posts a request: MPI2_REQUEST_DESCRIPTOR_UNION as a number, its byte 0 the lowest, the frame of 128 bytes that
+ * its SMID names, and the data that a write moves, at most 4,096 bytes (else MPT_NO_SUCH). What the controller has to
+ * say to it comes up. It takes no memory but for the data.
+ */
+static inline mpt_code mpt_ioc_post(mpt_ioc *ioc, uint64_t descriptor, const uint8_t *frame, const void *data, size_t size)
+{
+    const uint8_t *bytes = mpt_bytes(data, size);
+    return ioc && frame && bytes ? (mpt_code)mpt_raw_ioc_post(ioc, descriptor, frame, bytes, size) : MPT_NULL;
+}
+
+/* The host gives a reply frame back by the reply free queue: its address, and ReplyFreeHostIndex after it. */
+static inline mpt_code mpt_ioc_return(mpt_ioc *ioc, uint32_t address, uint16_t index)
+{
+    return ioc ? (mpt_code)mpt_raw_ioc_return(ioc, address, index) : MPT_NULL;
+}
+
+/* The controller processes its oldest high priority post. MPT_NOTHING where there is none. */
+static inline mpt_code mpt_ioc_step_high(mpt_ioc *ioc)
+{
+    return ioc ? (mpt_code)mpt_raw_ioc_step_high(ioc) : MPT_NULL;
+}
+
+/* The controller processes its oldest other post. MPT_NOTHING where there is none. */
+static inline mpt_code mpt_ioc_step(mpt_ioc *ioc)
+{
+    return ioc ? (mpt_code)mpt_raw_ioc_step(ioc) : MPT_NULL;
+}
+
+/*
+ * What the controller puts next on a reply queue, which it then has put. MPT_NOTHING where there is no such queue,
+ * nothing waits, or its front waits for a reply frame; *up then stays.
+ */
+static inline mpt_code mpt_ioc_up(mpt_ioc *ioc, uint8_t queue, mpt_up *up)
+{
+    if (!ioc || !up)
+        return MPT_NULL;
+    return (mpt_code)mpt_raw_ioc_up(ioc, queue, &up->head, up->frame, up->page, sizeof up->page, up->sense,
+        sizeof up->sense);
+}
+
+/*
+ * Makes a fabric with these disks, none of which is plugged, and expanders with so many phys each. MPT_REFUSED where a
+ * disk has no blocks or more than 1,024, where there are more than 64 disks or two of one address, more than 16
+ * expanders, or one without phys or with more than 22.
+ */
+static inline mpt_code mpt_fabric_new(mpt_fabric *fabric, const mpt_disk *disks, size_t count, const uint8_t *phys,
+    size_t expanders)
+{
+    static const mpt_disk none = {0, 0};
+    phys = mpt_bytes(phys, expanders);
+    if (!disks && !count)
+        disks = &none;
+    return fabric && disks && phys ? (mpt_code)mpt_raw_fabric_new(fabric, disks, count, phys, expanders) : MPT_NULL;
+}
+
+/* Frees the fabric and empties the handle. */
+static inline void mpt_fabric_free(mpt_fabric *fabric)
+{
+    if (fabric)
+        mpt_raw_fabric_free(fabric);
+}
+
+/* Plugs the disk of an address at a phy. MPT_REFUSED where there is none, or it or the phy is taken. */
+static inline mpt_code mpt_fabric_plug(mpt_fabric *fabric, uint64_t address, uint8_t expander, uint8_t phy)
+{
+    return fabric ? (mpt_code)mpt_raw_fabric_plug(fabric, address, expander, phy) : MPT_NULL;
+}
+
+/* Unplugs the disk of an address: its tasks are gone. MPT_REFUSED where no such disk is plugged. */
+static inline mpt_code mpt_fabric_unplug(mpt_fabric *fabric, uint64_t address)
+{
+    return fabric ? (mpt_code)mpt_raw_fabric_unplug(fabric, address) : MPT_NULL;
+}
+
+/* The tag of the task that was queued first, or MPT_NOTHING. */
+static inline mpt_code mpt_fabric_oldest(mpt_fabric *fabric, uint16_t *tag)
+{
+    return fabric && tag ? (mpt_code)mpt_raw_fabric_oldest(fabric, tag) : MPT_NULL;
+}
+
+/* Carries a task out at its disk, whose address is answered, or MPT_NOTHING where no task has the tag. */
+static inline mpt_code mpt_fabric_run(mpt_fabric *fabric, uint16_t tag, uint64_t *address)
+{
+    return fabric && address ? (mpt_code)mpt_raw_fabric_run(fabric, tag, address) : MPT_NULL;
+}
+
+/* Tells the controller's lane that a disk came or went, or MPT_NOTHING. */
+static inline mpt_code mpt_fabric_announce(mpt_fabric *fabric)
+{
+    return fabric ? (mpt_code)mpt_raw_fabric_announce(fabric) : MPT_NULL;
+}
+
+/* The fabric takes what the controller puts next for its targets, or MPT_NOTHING. */
+static inline mpt_code mpt_fabric_take(mpt_fabric *fabric, mpt_ioc *ioc)
+{
+    return fabric && ioc ? (mpt_code)mpt_raw_fabric_take(fabric, ioc) : MPT_NULL;
+}
+
+/* The controller takes what the fabric puts next, or MPT_NOTHING. */
+static inline mpt_code mpt_fabric_give(mpt_fabric *fabric, mpt_ioc *ioc)
+{
+    return fabric && ioc ? (mpt_code)mpt_raw_fabric_give(fabric, ioc) : MPT_NULL;
 }
 
 #ifdef __cplusplus

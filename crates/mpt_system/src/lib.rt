@@ -23,8 +23,6 @@ mod rounds;
 mod stepping;
 mod system;
 mod takes;
-#[cfg(test)]
-mod tests;
 mod told;
 mod up_lane;
 mod up_lanes;

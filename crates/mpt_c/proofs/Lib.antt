@@ -1,0 +1,3 @@
+pub mod FabricData
+pub mod IocData
+pub mod Values
