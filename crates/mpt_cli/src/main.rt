@@ -7,6 +7,8 @@ mod decode;
 mod input;
 mod job;
 mod replay;
+#[cfg(test)]
+mod replay_tests;
 mod run;
 mod scatter_input;
 mod status;
