@@ -57,9 +57,6 @@ differs "decode scsi" "$room/listing" crates/mpt_cli/stdout
 } >"$room/decode.stdout"
 differs decode "$room/decode.stdout" examples/c/decode.stdout
 
-$checked "$room/device" >"$room/device.stdout" || failed=1
-differs device "$room/device.stdout" examples/c/device.stdout
-
 $checked "$room/border" || failed=1
 
 [ "$failed" -eq 0 ] && echo "c: the examples ran${checked:+ under valgrind}, and wrote what is stored"

@@ -1,4 +1,2 @@
 -- What the exports promise to C.
 pub mod Answers
-pub mod Holding
-pub mod OnHandles

@@ -2,8 +2,4 @@
 //! its clauses again. `include/mpt.h` declares the exports, and tests there what they ask of C.
 #![tactic(auto)]
 
-mod device;
-mod fabric;
-mod fabric_handle;
-mod ioc_handle;
 mod messages;

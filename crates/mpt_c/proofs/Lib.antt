@@ -1,3 +1,0 @@
-pub mod FabricData
-pub mod IocData
-pub mod Values
