@@ -9,7 +9,7 @@ for tool in ld objcopy ar; do
         exit 1
     fi
 done
-python3 ../../tests/c/library.py || exit 1
+python3 ../../tests/c/library.py || rt lib || exit 1
 rm -f out/libmpt.a
 ld -r -o out/mpt.o --whole-archive out/libmpt_c.a --no-whole-archive "$kit/c/liblibc_c.a" &&
     objcopy --wildcard --keep-global-symbol 'mpt_*' out/mpt.o &&
