@@ -7,15 +7,13 @@ if ! command -v "$compiler" >/dev/null; then
     echo "c: $compiler is missing (Debian's package gcc)"
     exit 1
 fi
-tests/c/library.sh >/tmp/mpt_c.$$ 2>&1 || {
-    tail -n 20 /tmp/mpt_c.$$
-    rm -f /tmp/mpt_c.$$
+room=$(mktemp -d) || exit 1
+trap 'rm -rf "$room"' EXIT
+tests/c/library.sh >"$room/library" 2>&1 || {
+    tail -n 20 "$room/library"
     echo "c: no library"
     exit 1
 }
-rm -f /tmp/mpt_c.$$
-room=$(mktemp -d) || exit 1
-trap 'rm -rf "$room"' EXIT
 library=crates/mpt_c/out/libmpt.a
 failed=0
 

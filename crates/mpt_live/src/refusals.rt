@@ -14,7 +14,19 @@ use sas_fabric::PlugFault;
 pub(crate) fn host_refusal(fault: HostFault) -> Result<Refusal, OutOfMemory>
     ensures { IfOk result (λ cause. refusal_of_host fault ≡ Some cause) }
 {
-    fault.refusal().ok_or(OutOfMemory)
+    match fault {
+        HostFault::NumberUsed => Ok(Refusal::NumberUsed),
+        HostFault::NotOperational => Ok(Refusal::NotOperational),
+        HostFault::NoDevice => Ok(Refusal::NoDevice),
+        HostFault::BadLength => Ok(Refusal::BadLength),
+        HostFault::NoIdentifier => Ok(Refusal::NoIdentifier),
+        HostFault::NotOpen => Ok(Refusal::NotOpen),
+        HostFault::AbortOpen => Ok(Refusal::AbortOpen),
+        HostFault::AlreadyStarted => Ok(Refusal::AlreadyStarted),
+        HostFault::NotStarted => Ok(Refusal::NotStarted),
+        HostFault::AlreadyResetting => Ok(Refusal::AlreadyResetting),
+        HostFault::OutOfMemory => Err(OutOfMemory),
+    }
 }
 
 /// The cause that a fault of the fabric names in a session. None where the line names no disk or phy that there is.
