@@ -1,0 +1,9 @@
+//! What the facts say of every world. The functions do nothing: what their contracts say is all that they are for.
+#![tactic(auto)]
+
+mod laws;
+
+pub use laws::{
+    frames_have_one_place_by_facts, identifiers_have_one_place_by_facts, nothing_faults_by_facts,
+    queues_are_short_by_facts,
+};
