@@ -6,3 +6,10 @@ pub mod Marks
 pub mod Handshakes
 pub mod Replied
 pub mod Values
+pub mod Frames
+pub mod Sums
+pub mod Returned
+pub mod Events
+pub mod Replies
+pub mod Strange
+pub mod Descriptors
