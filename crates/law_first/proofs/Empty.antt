@@ -1,6 +1,8 @@
 -- Tables that have the same everywhere, and lists of nothing.
-use Rattle.std.proofs.Common.{◌≡◌, ℕ, zero, suc, ◌+◌, ◌<◌, Bool, true, false, not, List, [], ◌∷◌, ◌++◌, map, length, get_or, replicate, Option, None, refl, ap, sym, ◌∙◌, arith}
+use Rattle.std.proofs.Common.{◌≡◌, ℕ, zero, suc, ◌+◌, ◌<◌, Bool, true, false, not, List, [], ◌∷◌, ◌++◌, map, length, get_or, replicate, Option, Some, None, is_some, refl, ap, sym, ◌∙◌, arith}
+use Rattle.std.specs.FinMap as finmap
 use Rattle.std.specs.List.{sum_by}
+use Rattle.std.specs.Ordering.{nat_cmp}
 use Rattle.std.proofs.lemmas.List.Sums.{sum_by-cons}
 use Rattle.mpt_trace.specs.declared.item.Up.{Up}
 use Rattle.mpt_rules.specs.declared.said.Said.{Said}
@@ -41,3 +43,10 @@ line_empty q queue =
     let up : get_or (replicate q []) queue [] ≡ [] = same_at q queue [] in
     let said : get_or (replicate q []) queue [] ≡ [] = same_at q queue [] in
     ap (λ (xs : List Up). map said_of xs ++ get_or (replicate q []) queue []) up ∙ said
+
+-- a map of nothing has no key
+pub no_key : {X Y : Type 0} (m : finmap.FinMap nat_cmp X) → m ≡ finmap.empty → (n : ℕ) (x : X) → finmap.get m n ≡ Some x → Y
+no_key {X = X} m z n x e = let f = sym (ap (λ (k : finmap.FinMap nat_cmp X). finmap.get k n) z ∙ finmap.get-empty nat_cmp n) ∙ e in absurd (cc)
+
+pub no_key_is : {X : Type 0} (m : finmap.FinMap nat_cmp X) → m ≡ finmap.empty → (n : ℕ) → finmap.get m n ≡ None
+no_key_is {X = X} m z n = ap (λ (k : finmap.FinMap nat_cmp X). finmap.get k n) z ∙ finmap.get-empty nat_cmp n
