@@ -1,5 +1,5 @@
 -- The facts of the clock of resets hold of the first world.
-use Rattle.std.proofs.Common.{◌≡◌, ℕ, zero, suc, ◌+◌, ◌%◌, ◌^◌, ◌<◌, ◌≤◌, ◌&&◌, not, Bool, true, false, List, [], ◌∷◌, length, get_or, replicate, Option, Some, None, is_some, refl, ap, sym, ◌∙◌, subst, arith}
+use Rattle.std.proofs.Common.{◌≡◌, ℕ, ◌+◌, ◌≤◌, Bool, true, false, [], None, is_some, refl, ap, ◌∙◌, arith}
 use Rattle.smid_pool.specs.Pool.{Free, is_taken}
 use Rattle.mpt_rules.specs.declared.binding.Binding.TheVariants as binding
 use Rattle.mpt_rules.specs.declared.said.Said.{Said}
@@ -13,8 +13,8 @@ use Rattle.mpt_rules.specs.World.FabricCounts.{discovered_count, discover_count,
 use Rattle.mpt_rules.specs.World.Lines.{up_line}
 use Rattle.mpt_rules.specs.World.Settings.{Setting, first_world}
 use Rattle.mpt_rules.specs.World.State.{World}
-use Rattle.mpt_rules.specs.World.Weight.{is_read, is_said_value}
-use Rattle.law_facts.specs.Clock.{Clock, FabricOff, HasNothing, IsClean, IsDark, IsStill, LoadsBeforeReset, MarkIsDue, MarkStands, NoReplyBeforeInit, OneLink, OneRead, OneResetWrite, PhaseTable, ResetsSeen, ValueIsLast, WritesBeforeRead}
+use Rattle.mpt_rules.specs.World.Weight.{is_read}
+use Rattle.law_facts.specs.Clock.{Clock, FabricOff, HasNothing, IsDark, IsStill, LoadsBeforeReset, MarkIsDue, MarkStands, NoReplyBeforeInit, OneLink, OneRead, OneResetWrite, PhaseTable, ResetsSeen, ValueIsLast, WritesBeforeRead}
 use Rattle.law_facts.specs.History.{History, first_history}
 use Rattle.law_facts.specs.Words.{behind, is_calm_said, is_discover_or_stop, is_load, is_order, is_reply, is_reply_or_mark, is_stop, is_stray_reset, others}
 use Rattle.law_moves.proofs.Counted.{how_many-nil, others-nil}

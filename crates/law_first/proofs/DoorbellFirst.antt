@@ -1,10 +1,9 @@
 -- The facts of the doorbell hold of the first world.
-use Rattle.std.proofs.Common.{◌≡◌, ℕ, ◌+◌, ◌<◌, ◌≤◌, Bool, true, false, List, [], ◌∷◌, Option, Some, None, refl, ap, sym, ◌∙◌, arith}
+use Rattle.std.proofs.Common.{◌≡◌, refl, ap}
 use Rattle.removal.specs.declared.phase.Phase.TheVariants as phase
 use Rattle.smid_pool.specs.Pool.{Free, is_taken}
 use Rattle.mpt_rules.specs.declared.host_frame.HostFrame.TheVariants as frame
 use Rattle.mpt_rules.specs.Host.Removal.{is_absent}
-use Rattle.mpt_rules.specs.World.Counts.{how_many}
 use Rattle.mpt_rules.specs.World.PlaceCounts.{is_held_frame}
 use Rattle.mpt_rules.specs.World.Settings.{Setting, first_world}
 use Rattle.mpt_rules.specs.World.State.{World}

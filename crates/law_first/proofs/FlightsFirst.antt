@@ -1,29 +1,25 @@
 -- The facts of identifiers and reply frames hold of the first world: each is at the host.
-use Rattle.std.proofs.Common.{◌≡◌, ℕ, zero, suc, ◌+◌, ◌*◌, ◌%◌, ◌<◌, ◌≤◌, ◌&&◌, not, Bool, true, false, List, [], ◌∷◌, length, get_or, replicate, Option, Some, None, is_some, option_map, refl, ap, sym, ◌∙◌, subst, arith}
-use Rattle.std.specs.FinMap as finmap
+use Rattle.std.proofs.Common.{◌≡◌, ℕ, zero, suc, ◌+◌, ◌%◌, ◌≤◌, not, false, [], length, get_or, replicate, Option, None, is_some, refl, ap, sym, ◌∙◌, subst, arith}
 use Rattle.std.specs.List.{sum_by}
 use Rattle.std.proofs.lemmas.List.{get_or-replicate}
 use Rattle.smid_pool.specs.Pool.{Slot, Free, is_open, slot_of}
-use Rattle.mpt_wire.specs.Messages.Fields.{reply_frame_address}
 use Rattle.mpt_rules.specs.declared.at_fabric.AtFabric.{AtFabric}
 use Rattle.mpt_rules.specs.declared.binding.Binding.TheVariants as binding
 use Rattle.mpt_rules.specs.declared.host_frame.HostFrame.TheVariants as frame
 use Rattle.mpt_rules.specs.declared.post.Post.{Post}
 use Rattle.mpt_rules.specs.declared.request.Request.{Request}
-use Rattle.mpt_rules.specs.declared.request.Request.TheVariants as request
-use Rattle.mpt_rules.specs.Host.Parts.{Cmd}
 use Rattle.mpt_rules.specs.Ioc.Commands.{is_held_for}
 use Rattle.mpt_rules.specs.Ioc.Tables.{is_held_as, request_at}
-use Rattle.mpt_rules.specs.World.Counts.{how_many, one_if, post_count, queued_count, reply_count, return_count, use_count}
+use Rattle.mpt_rules.specs.World.Counts.{how_many, one_if, reply_count, use_count}
 use Rattle.mpt_rules.specs.World.FabricCounts.{abort_end_count, gone_count, reset_end_count, result_count, sent_abort_count, sent_reset_count, sent_task_count, task_count, terminated_count}
 use Rattle.mpt_rules.specs.World.Lines.{is_high}
 use Rattle.mpt_rules.specs.World.PlaceCounts.{frame_count, is_held_frame, is_this_number, replies_on, smid_count}
 use Rattle.mpt_rules.specs.World.Settings.{IsSetting, Setting, first_world}
 use Rattle.mpt_rules.specs.World.State.{World}
 use Rattle.mpt_rules.proofs.Counts.{post_count-nil, queued_count-nil, reply_count-nil, return_count-nil, use_count-nil}
-use Rattle.law_facts.specs.Flights.{AbortNames, Flights, Frame, FramesAreFrames, HeldResets, Identifier, NamedOnce, Number, OneAtFabric, QueuesSorted, RecordStands, Sizes, abort_tokens, command_tokens, is_frame_number, is_in_a_frame, names_a_frame, namings, reset_tokens, turn_at}
+use Rattle.law_facts.specs.Flights.{AbortNames, Flights, Frame, FramesAreFrames, Identifier, NamedOnce, Number, OneAtFabric, RecordStands, Sizes, abort_tokens, command_tokens, is_frame_number, is_in_a_frame, names_a_frame, reset_tokens, turn_at}
 use Rattle.law_facts.specs.History.{History, first_history}
-use Rattle.law_facts.specs.Words.{is_abort_asked, is_out_frame, names_task, others, slot}
+use Rattle.law_facts.specs.Words.{is_out_frame, names_task, others, slot}
 use Rattle.law_moves.proofs.Counted.{how_many-nil, others-nil}
 use Rattle.law_first.proofs.ClockFirst.{never, no_more_than}
 use Rattle.law_first.proofs.Empty.{no_key, no_sum, none_of, same_at, same_long}

@@ -1,15 +1,10 @@
 -- The facts of handles hold of the first world: no handle is bound, and the host has none.
-use Rattle.std.proofs.Common.{◌≡◌, ◌≢◌, ℕ, zero, suc, ◌+◌, ◌-◌, ◌<◌, ◌≤◌, nat_le, Bool, true, false, if◌then◌else◌, List, [], ◌∷◌, ◌++◌, All, length, get_or, replicate, Option, Some, None, refl, ap, sym, ◌∙◌, subst, arith}
+use Rattle.std.proofs.Common.{◌≡◌, ℕ, ◌-◌, nat_le, Bool, true, false, if◌then◌else◌, [], get_or, replicate, Option, Some, None, refl, ap, sym, ◌∙◌, subst, arith}
 use Rattle.std.proofs.lemmas.List.Elements.{All-nil}
-use Rattle.smid_pool.specs.Pool.{Slot, Free}
 use Rattle.removal.specs.Handles.{IsHandle}
-use Rattle.mpt_trace.specs.declared.item.Down.{Down}
 use Rattle.mpt_wire.specs.Handles.Bindings.{Plug}
-use Rattle.mpt_rules.specs.declared.binding.Binding.{Binding}
 use Rattle.mpt_rules.specs.declared.binding.Binding.TheVariants as binding
-use Rattle.mpt_rules.specs.declared.binding.Waiting.{Waiting}
 use Rattle.mpt_rules.specs.declared.post.Post.{Post}
-use Rattle.mpt_rules.specs.declared.request.Request.{Request}
 use Rattle.mpt_rules.specs.Ioc.Bindings.{waits_at}
 use Rattle.mpt_rules.specs.Ioc.Tables.{binding_of, first_handle, is_present_at, is_unbound}
 use Rattle.mpt_rules.specs.World.Counts.{how_many}
@@ -18,9 +13,9 @@ use Rattle.mpt_rules.specs.World.Settings.{Setting, first_world}
 use Rattle.mpt_rules.specs.World.State.{World}
 use Rattle.law_facts.specs.Handles.{Aimed, BindingIs, Binds, Handle, Handles, HostKnown, IsWaiting, KnownOnce, LastOfHandle, OlderFirst, Pages, RemovalIsKnown, ResetsInOrder, Served, Waits, is_remove_post, uses_handle}
 use Rattle.law_facts.specs.History.{History, first_history}
-use Rattle.law_facts.specs.Words.{behind, slot}
+use Rattle.law_facts.specs.Words.{behind}
 use Rattle.law_moves.proofs.Counted.{how_many-nil}
-use Rattle.law_first.proofs.ClockFirst.{never, no_more_than}
+use Rattle.law_first.proofs.ClockFirst.{never}
 use Rattle.law_first.proofs.Empty.{no_key, none_of, same_at}
 use Rattle.law_first.proofs.FlightsFirst.{all_slots_free}
 

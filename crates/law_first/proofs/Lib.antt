@@ -5,3 +5,8 @@ pub mod LimitsFirst
 pub mod FlightsFirst
 pub mod HandlesFirst
 pub mod MessagesFirst
+pub mod PathsFirst
+pub mod DisksFirst
+pub mod NoticesFirst
+pub mod TiesFirst
+pub mod FactsFirst

@@ -1,16 +1,12 @@
 -- The limits hold of the first world of a setting that keeps them.
-use Rattle.std.proofs.Common.{◌≡◌, ◌≢◌, ℕ, ◌<◌, ◌≤◌, ◌^◌, All, List, map, length, get_or, replicate, Option, Some, None, refl, ap, sym, ◌∙◌, subst, arith}
-use Rattle.std.specs.FinMap as finmap
+use Rattle.std.proofs.Common.{◌≡◌, ◌≢◌, ◌<◌, ◌≤◌, List, map, length, get_or, refl, ap, sym, ◌∙◌, arith}
 use Rattle.std.specs.List.{AllPairs}
-use Rattle.std.specs.Ordering.{nat_cmp}
-use Rattle.std.proofs.lemmas.List.{get_or-map, get_or_default}
+use Rattle.std.proofs.lemmas.List.{get_or-map}
 use Rattle.std.proofs.lemmas.List.Elements.{All-map, All-nil, All-replicate}
 use Rattle.smid_pool.specs.Pool.{Free}
 use Rattle.mpt_trace.specs.declared.disk_spec.DiskSpec.{DiskSpec}
 use Rattle.mpt_rules.specs.declared.binding.Binding.TheVariants as binding
 use Rattle.mpt_rules.specs.Fabric.Parts.{FabricDisk, new_disk}
-use Rattle.mpt_rules.specs.Host.Parts.{Cmd}
-use Rattle.mpt_rules.specs.World.Lines.{notice_line}
 use Rattle.mpt_rules.specs.World.Settings.{IsSetting, Setting, first_world}
 use Rattle.mpt_rules.specs.World.State.{World}
 use Rattle.law_facts.specs.Limits.{BindingFits, IsAddress, Limits, NoticeFits, RecordFits, WaitFits, WaitingFits}

@@ -1,15 +1,13 @@
 -- The facts of messages hold of the first world: nothing is said.
-use Rattle.std.proofs.Common.{◌≡◌, ℕ, zero, suc, ◌+◌, ◌<◌, ◌≤◌, Bool, true, false, List, [], ◌∷◌, All, Option, Some, None, refl, ap, sym, ◌∙◌, subst, arith}
-use Rattle.std.specs.FinMap as finmap
+use Rattle.std.proofs.Common.{◌≡◌, ℕ, All, refl, sym, subst, arith}
 use Rattle.std.proofs.lemmas.List.Elements.{All-nil}
 use Rattle.smid_pool.specs.Pool.{Free}
 use Rattle.mpt_rules.specs.World.Counts.{how_many}
-use Rattle.mpt_rules.specs.World.Lines.{up_line}
 use Rattle.mpt_rules.specs.World.Settings.{Setting, first_world}
 use Rattle.mpt_rules.specs.World.State.{World}
 use Rattle.law_facts.specs.History.{History, first_history}
 use Rattle.law_facts.specs.Messages.{BackIs, BringUp, DownIsRecord, HeldIs, IsUnknown, Messages, NamedIsOpen, OutIs, PostIsRecord, RequestIs, SaidIs, TaskIs, is_enable_waiting}
-use Rattle.law_facts.specs.Words.{is_enable_asked, is_notification_asked, slot}
+use Rattle.law_facts.specs.Words.{is_enable_asked, is_notification_asked}
 use Rattle.law_moves.proofs.Counted.{how_many-nil}
 use Rattle.law_first.proofs.ClockFirst.{never}
 use Rattle.law_first.proofs.Empty.{line_empty, no_key, none_of}

@@ -3,4 +3,4 @@
 
 mod laws;
 
-pub use laws::{clocks_stand_at_first, doorbells_stand_at_first};
+pub use laws::{clocks_stand_at_first, doorbells_stand_at_first, facts_stand_at_first};
