@@ -1,0 +1,15 @@
+pub mod Agreeing
+pub mod Keys
+pub mod PostFields
+pub mod Known
+pub mod HostWalk
+pub mod HostAnswers
+pub mod HostValues
+pub mod Requests
+pub mod HostAsks
+pub mod IocQueues
+pub mod TameTold
+pub mod ReadyPlug
+pub mod PostsKept
+pub mod AcceptedKept
+pub mod Shown

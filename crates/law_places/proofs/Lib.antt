@@ -1,0 +1,5 @@
+pub mod Premises
+pub mod Standing
+mod Silent
+pub mod Kept
+pub mod Says

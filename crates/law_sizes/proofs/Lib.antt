@@ -1,0 +1,3 @@
+mod HostLengths
+mod IocLengths
+pub mod SizesKept
