@@ -1,0 +1,4 @@
+pub mod Strict
+mod Books
+mod BooksKept
+pub mod Recorded
