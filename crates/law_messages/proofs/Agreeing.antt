@@ -43,6 +43,16 @@ same n = grind arith
 pub differ : (n s : ℕ) → (n == s) ≡ false → n ≢ s
 differ n s e f = not_both (s == s) (subst (λ m. (m == s) ≡ false) f e) (same s)
 
+pub turned_true : (x y : ℕ) → (x == y) ≡ true → (y == x) ≡ true
+turned_true x y t = ap (λ n. y == n) (eqb-true x y t) ∙ same y
+
+pub turned_false : (x y : ℕ) → (x == y) ≡ false → (y == x) ≡ false
+turned_false x y t = by_test (y == x) refl
+  where
+    by_test : (b : Bool) → (y == x) ≡ b → b ≡ false
+    by_test false e = refl
+    by_test true e = not_both (x == y) t (turned_true y x e)
+
 pub all_passing : {X : Type 0} (test : X → Bool) (P Q : X → Type 0) → ((x : X) → test x ≡ false → P x → Q x) → (xs : List X) → how_many test xs ≡ 0 → All P xs → All Q xs
 all_passing test P Q f [] z a = All-nil Q
 all_passing test P Q f (x ∷ xs) z a = by_test (test x) refl (how_many-cons test x xs) (λ y. all_passing test P Q f xs y (All-tail P x xs a))

@@ -42,13 +42,13 @@ parked_apart e = cc
 
 module _ (w : World) (h : History) (f : Facts w h) (k : History) (hand : ℕ) where
   abbrev Walks : Host → Type 0
-  Walks x = walk.Walks w k hand x
+  Walks x = walk.Walks w k hand None x
 
   -- ---- the identifier is free, and given on
 
   module _ (x : Host) (l : 1 ≤ hand) (m : hand ≤ 280) (z : post_count hand x.out ≡ 0) where
     with_slot_of : (y : Slot Request) → Walks x → Walks (record x { pool = set x.pool (hand - 1) y })
-    with_slot_of y a = walk.changes w k hand x hand y l m z (inr refl) a
+    with_slot_of y a = walk.changes w k hand None x hand y l m z (inr refl) a
 
     slot_there : (y : Slot Request) → Walks x → slot_of (set x.pool (hand - 1) y) hand ≡ y
     slot_there y a = let t = a.table in slot_of-set x.pool hand hand y l (omega (arith, l, m, t)) ∙ ap (λ c. cond c y (slot_of x.pool hand)) (same hand)
@@ -61,14 +61,14 @@ module _ (w : World) (h : History) (f : Facts w h) (k : History) (hand : ℕ) wh
       where
         by_list : (xs : List ℕ) → All IsHandle xs → Walks (asks.gives_high (asks.frees x hand) hand xs)
         by_list [] g = frees_only a
-        by_list (handle ∷ rest) g = walk.leave w k hand (record (asks.frees x hand) { wait_high = rest }) hand handle i (All-head IsHandle handle rest g) (ap is_open (slot_there Free a)) (frees_only a)
+        by_list (handle ∷ rest) g = walk.leave w k hand None (record (asks.frees x hand) { wait_high = rest }) hand handle i (All-head IsHandle handle rest g) (ap is_open (slot_there Free a)) (frees_only a)
 
     frees_internal : IsIn class.Internal hand → Walks x → Walks (asks.frees_internal x hand)
     frees_internal i a = by_list x.wait_internal
       where
         by_list : (xs : List Request) → Walks (asks.gives_internal (asks.frees x hand) hand xs)
         by_list [] = frees_only a
-        by_list (r ∷ rest) = walk.internal w k hand (record (asks.frees x hand) { wait_internal = rest }) hand r i (ap is_open (slot_there Free a)) (frees_only a)
+        by_list (r ∷ rest) = walk.internal w k hand None (record (asks.frees x hand) { wait_internal = rest }) hand r i (ap is_open (slot_there Free a)) (frees_only a)
 
   -- ---- a frame and an entry were given back
 
@@ -88,24 +88,24 @@ module _ (w : World) (h : History) (f : Facts w h) (k : History) (hand : ℕ) wh
         more a i = let p = post_count-append hand w.host.out (down.Return a i ∷ []) in let c = post_count-cons hand (down.Return a i) [] in let n = post_count-nil hand in let z = none in omega (arith, p, c, n, z)
 
         by_bool : (c : Bool) → Taken (if c then returns.with_return w.host (returns.frame_of (frame_address_in d)) else returns.keeps w.host (returns.frame_of (frame_address_in d)))
-        by_bool true = record { walks = walk.one_item w k hand w.host (down.Return _ _) refl start; pool = refl; mode = refl; high = refl; unposted = more _ _ }
+        by_bool true = record { walks = walk.one_item w k hand None w.host (down.Return _ _) refl start; pool = refl; mode = refl; high = refl; unposted = more _ _ }
         by_bool false = record { walks = start; pool = refl; mode = refl; high = refl; unposted = none }
 
     entry_taken : (queue d : ℕ) (g : Option (List ℕ)) → Taken (replies.takes_entry (replies.with_frame_heard w.host d g) queue)
     entry_taken queue d g =
-        let t = frame d g in let x = replies.with_frame_heard w.host d g in let a = walk.one_item w k hand x (down.Write REPLY_POST_HOST_INDEX (replies.index_value queue (replies.next_index x queue))) refl t.walks in
+        let t = frame d g in let x = replies.with_frame_heard w.host d g in let a = walk.one_item w k hand None x (down.Write REPLY_POST_HOST_INDEX (replies.index_value queue (replies.next_index x queue))) refl t.walks in
         let p = post_count-append hand x.out (down.Write REPLY_POST_HOST_INDEX (replies.index_value queue (replies.next_index x queue)) ∷ []) in let c = post_count-cons hand (down.Write REPLY_POST_HOST_INDEX (replies.index_value queue (replies.next_index x queue))) [] in let n = post_count-nil hand in let z = t.unposted in
         record {
-          walks = record { table = a.table; queues = length-set x.indices queue (replies.next_index x queue) ∙ a.queues; fit = again x queue a.fit; slots = a.slots; agree = a.agree };
+          walks = record { table = a.table; queues = length-set x.indices queue (replies.next_index x queue) ∙ a.queues; fit = again x queue a.fit; slots = a.slots; agree = a.agree; less = a.less };
           pool = t.pool;
           mode = t.mode;
           high = t.high;
           unposted = omega (arith, p, c, n, z);
         }
       where
-        again : (x : Host) (queue : ℕ) → walk.Fits w k hand x.pool x.cmds x.indices (x.out ++ down.Write REPLY_POST_HOST_INDEX (replies.index_value queue (replies.next_index x queue)) ∷ [])
-            → walk.Fits w k hand x.pool x.cmds (set x.indices queue (replies.next_index x queue)) (x.out ++ down.Write REPLY_POST_HOST_INDEX (replies.index_value queue (replies.next_index x queue)) ∷ [])
-        again x queue a = walk.same_queues w k hand x.pool x.cmds x.indices (set x.indices queue (replies.next_index x queue)) (length-set x.indices queue (replies.next_index x queue)) _ a
+        again : (x : Host) (queue : ℕ) → walk.Fits w k hand None x.pool x.cmds x.indices (x.out ++ down.Write REPLY_POST_HOST_INDEX (replies.index_value queue (replies.next_index x queue)) ∷ [])
+            → walk.Fits w k hand None x.pool x.cmds (set x.indices queue (replies.next_index x queue)) (x.out ++ down.Write REPLY_POST_HOST_INDEX (replies.index_value queue (replies.next_index x queue)) ∷ [])
+        again x queue a = walk.same_queues w k hand None x.pool x.cmds x.indices (set x.indices queue (replies.next_index x queue)) (length-set x.indices queue (replies.next_index x queue)) _ a
 
     -- ---- the answer
 
@@ -131,7 +131,7 @@ module _ (w : World) (h : History) (f : Facts w h) (k : History) (hand : ℕ) wh
       unparked y task (Open r) e a = record { walks = a; out = refl; high = refl }
       unparked y task Parked e a =
           let i = in_table y.pool task Parked e parked_apart in let l = a.table in
-          record { walks = walk.changes w k hand y task Free i.0 (omega (arith, i, l)) (walk.unposted w k hand y task (ap is_open e) a) (inl (ap is_open e)) a; out = refl; high = refl }
+          record { walks = walk.changes w k hand None y task Free i.0 (omega (arith, i, l)) (walk.unposted w k hand None y task (ap is_open e) a) (inl (ap is_open e)) a; out = refl; high = refl }
 
       module _ (r : Request) (e : slot w.host hand ≡ Open r) where
         low : (1 ≤ hand) × (hand ≤ 280)
@@ -143,7 +143,7 @@ module _ (w : World) (h : History) (f : Facts w h) (k : History) (hand : ℕ) wh
       command : (n : ℕ) (how : Ending) → slot w.host hand ≡ Open (request.Command n) → Walks (replies.host_answers x hand n how).part
       command n how e =
           let l = low (request.Command n) e in let y = replies.slot_after (finmap.get x.aborts n) in
-          walk.forgets w k hand (record x { pool = set x.pool (hand - 1) y }) n (none_left l.0 l.1 (finmap.get x.aborts n)) (with_slot_of x l.0 l.1 t.unposted y t.walks)
+          walk.forgets w k hand None (record x { pool = set x.pool (hand - 1) y }) n (none_left l.0 l.1 (finmap.get x.aborts n)) (with_slot_of x l.0 l.1 t.unposted y t.walks)
         where
           closed : {T : Type 0} (o : Option ℕ) → replies.slot_after o ≡ Open (request.Command n) → T
           closed None q = absurd (cc)
@@ -175,7 +175,7 @@ module _ (w : World) (h : History) (f : Facts w h) (k : History) (hand : ℕ) wh
           freed = let l = low (request.Leave handle) e in frees_high phased l.0 l.1 t.unposted (classed w h f hand (request.Leave handle) e) high_handles t.walks
 
           by_phase : (b : Bool) → Walks (if b then asks.asks_internal (asks.frees_high phased hand) (request.Remove handle) else asks.frees_high phased hand)
-          by_phase true = walk.asks_internal w k hand (asks.frees_high phased hand) (request.Remove handle) freed
+          by_phase true = walk.asks_internal w k hand None (asks.frees_high phased hand) (request.Remove handle) freed
           by_phase false = freed
 
       answer : (r : Request) (v : Heard) → slot w.host hand ≡ Open r → Walks (replies.hears_answer x hand r v).part
@@ -192,7 +192,7 @@ module _ (w : World) (h : History) (f : Facts w h) (k : History) (hand : ℕ) wh
       answer (request.Ack ev context) v e = let l = low (request.Ack ev context) e in unless l.0 l.1 (removal.quietly (asks.frees_internal x hand)) (frees_internal x l.0 l.1 t.unposted (classed w h f hand (request.Ack ev context) e) t.walks)
       answer request.Notification v e =
           let l = low request.Notification e in
-          unless l.0 l.1 (removal.quietly (replies.hears_notified x hand)) (walk.asks_internal w k hand (asks.frees_internal x hand) request.PortEnable (frees_internal x l.0 l.1 t.unposted (classed w h f hand request.Notification e) t.walks))
+          unless l.0 l.1 (removal.quietly (replies.hears_notified x hand)) (walk.asks_internal w k hand None (asks.frees_internal x hand) request.PortEnable (frees_internal x l.0 l.1 t.unposted (classed w h f hand request.Notification e) t.walks))
       answer request.PortEnable v e = let l = low request.PortEnable e in unless l.0 l.1 (replies.after_port_enable x hand) (frees_internal x l.0 l.1 t.unposted (classed w h f hand request.PortEnable e) t.walks)
 
       none_asked : (v : Heard) → Walks (replies.hears_reply_to x hand None v).part
@@ -200,7 +200,7 @@ module _ (w : World) (h : History) (f : Facts w h) (k : History) (hand : ℕ) wh
         where
           by_mode : (b : Bool) → Walks (if b then removal.quietly x else removal.hears_event x (replies.reply_bytes v)).part
           by_mode true = t.walks
-          by_mode false = walk.event w k hand x (replies.reply_bytes v) t.walks
+          by_mode false = walk.event w k hand None x (replies.reply_bytes v) t.walks
 
       reply_to : (y : Slot Request) (v : Heard) → slot w.host hand ≡ y → Walks (replies.hears_reply_to x hand (record_of y) v).part
       reply_to (Open r) v e = answer r v e
@@ -208,7 +208,7 @@ module _ (w : World) (h : History) (f : Facts w h) (k : History) (hand : ℕ) wh
       reply_to Parked v e = none_asked v
 
 -- a reply
-pub reply_walks : (w : World) (h : History) (f : Facts w h) (k : History) (queue d : ℕ) (g : Option (List ℕ)) (page sense : List ℕ) → walk.Walks w k (smid_in d) w.host → post_count (smid_in d) w.host.out ≡ 0 → All IsHandle w.host.wait_high
-    → walk.Walks w k (smid_in d) (replies.hears_reply w.host queue (replies.heard_of d g page sense)).part
+pub reply_walks : (w : World) (h : History) (f : Facts w h) (k : History) (queue d : ℕ) (g : Option (List ℕ)) (page sense : List ℕ) → walk.Walks w k (smid_in d) None w.host → post_count (smid_in d) w.host.out ≡ 0 → All IsHandle w.host.wait_high
+    → walk.Walks w k (smid_in d) None (replies.hears_reply w.host queue (replies.heard_of d g page sense)).part
 reply_walks w h f k queue d g page sense start none handles =
     reply_to w h f k (smid_in d) start none handles (replies.takes_entry (replies.with_frame_heard w.host d g) queue) (entry_taken w h f k (smid_in d) start none handles queue d g) (slot w.host (smid_in d)) (replies.heard_of d g page sense) refl

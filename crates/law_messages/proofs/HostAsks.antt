@@ -43,7 +43,7 @@ ready_is_handle phases address handle l e = by_place (position (is_ready_at addr
 
 module _ (w : World) (h : History) (f : Facts w h) (k : History) where
   abbrev Walks : Host → Type 0
-  Walks x = walk.Walks w k 0 x
+  Walks x = walk.Walks w k 0 None x
 
   pub not_open : (n : ℕ) → finset.contains w.host.accepted n ≡ false → finmap.get w.host.cmds n ≡ None
   not_open n e = by_cmd (finmap.get w.host.cmds n) refl
@@ -57,16 +57,16 @@ module _ (w : World) (h : History) (f : Facts w h) (k : History) where
 
   -- ---- submissions
 
-  pub submitted : (n address handle s : ℕ) (command : Command) → AbortsAreAccepted w → finset.contains w.host.accepted n ≡ false → IsLeast class.ScsiIo w.host.pool s → (r : OpenRequest) → finmap.get k.machine.requests n ≡ Some r → r.command ≡ command → Walks w.host → Walks (inputs.with_accepted w.host n address command handle s)
+  pub submitted : (n address handle s : ℕ) (command : Command) → AbortsAreAccepted w → finset.contains w.host.accepted n ≡ false → IsLeast class.ScsiIo w.host.pool s → (r : OpenRequest) → finmap.get k.machine.requests n ≡ Some r → r.command ≡ command → walk.Walks w k 0 (Some n) w.host → walk.Walks w k 0 (Some n) (inputs.with_accepted w.host n address command handle s)
   submitted n address handle s command aborts e i r g c a =
       let c0 : Cmd = record { smid = s; handle = handle } in
-      let b = walk.names w k 0 w.host n c0 (no_command w h f n (not_open n e)) (no_abort aborts n e) a in
+      let b = walk.names w k 0 (Some n) w.host n c0 refl (no_command w h f n (not_open n e)) (no_abort aborts n e) a in
       let q = a.queues in let some = f.flights.sizes.some_queue in let few = f.flights.sizes.few_queues in let in_class = i.inside in
       let m : (s - 1) % host_queue_count w.host < host_queue_count w.host = mod-lt (s - 1) (let z : 0 < host_queue_count w.host = omega (arith, some) in z) in
       let d = smid_posted post.ScsiIo ((s - 1) % host_queue_count w.host) s handle (omega (arith, m, few)) (omega (arith, in_class)) in
-      walk.posts w k 0 (record w.host { cmds = finmap.insert w.host.cmds n c0 }) s (post_descriptor post.ScsiIo ((s - 1) % host_queue_count w.host) s handle) (request.Command n) (asks.frame_asked (asks.command_asked s handle command)) command.payload (omega (arith, in_class)) (omega (arith, in_class)) d (ap is_open i.free)
-      (subst (λ o. CommandPost (walk.With w k 0 w.host.pool (finmap.insert w.host.cmds n c0) w.host.indices) (record { descriptor = post_descriptor post.ScsiIo ((s - 1) % host_queue_count w.host) s handle; frame = asks.frame_asked (asks.command_asked s handle command); payload = command.payload }) o (finmap.get k.machine.requests n)) (sym (get_inserted w.host.cmds n c0))
-      (subst (λ o. CommandPost (walk.With w k 0 w.host.pool (finmap.insert w.host.cmds n c0) w.host.indices) (record { descriptor = post_descriptor post.ScsiIo ((s - 1) % host_queue_count w.host) s handle; frame = asks.frame_asked (asks.command_asked s handle command); payload = command.payload }) (Some c0) o) (sym g)
+      walk.posts w k 0 (Some n) (record w.host { cmds = finmap.insert w.host.cmds n c0 }) s (post_descriptor post.ScsiIo ((s - 1) % host_queue_count w.host) s handle) (request.Command n) (asks.frame_asked (asks.command_asked s handle command)) command.payload (omega (arith, in_class)) (omega (arith, in_class)) d (ap is_open i.free)
+      (subst (λ o. CommandPost (walk.With w k 0 (Some n) w.host.pool (finmap.insert w.host.cmds n c0) w.host.indices) (record { descriptor = post_descriptor post.ScsiIo ((s - 1) % host_queue_count w.host) s handle; frame = asks.frame_asked (asks.command_asked s handle command); payload = command.payload }) o (finmap.get k.machine.requests n)) (sym (get_inserted w.host.cmds n c0))
+      (subst (λ o. CommandPost (walk.With w k 0 (Some n) w.host.pool (finmap.insert w.host.cmds n c0) w.host.indices) (record { descriptor = post_descriptor post.ScsiIo ((s - 1) % host_queue_count w.host) s handle; frame = asks.frame_asked (asks.command_asked s handle command); payload = command.payload }) (Some c0) o) (sym g)
       (refl, ap (λ x. asks.frame_asked (asks.command_asked s handle x)) (sym c), ap (λ (x : Command). x.payload) (sym c))))
       b
 
@@ -78,7 +78,7 @@ module _ (w : World) (h : History) (f : Facts w h) (k : History) where
       let in_class = i.inside in
       let d = smid_posted post.HighPriority 0 s 0 (omega arith) (omega (arith, in_class)) in
       let t = handle_of_abort c.handle c.smid (f.limits.cmds n c e) (omega (arith, task)) (omega (arith, task)) in
-      walk.posts w k 0 w.host s (post_descriptor post.HighPriority 0 s 0) (request.Abort n c.smid) (asks.frame_asked (ask.Task c.handle abort_task c.smid)) [] (omega (arith, in_class)) (omega (arith, in_class)) d (ap is_open i.free)
+      walk.posts w k 0 None w.host s (post_descriptor post.HighPriority 0 s 0) (request.Abort n c.smid) (asks.frame_asked (ask.Task c.handle abort_task c.smid)) [] (omega (arith, in_class)) (omega (arith, in_class)) d (ap is_open i.free)
       ((ap (λ x. post_descriptor post.HighPriority 0 x 0) (sym d), ap (λ x. asks.frame_asked (ask.Task x abort_task c.smid)) (sym t), refl), subst (Rattle.law_facts.specs.Messages.HasHandleOf (Rattle.mpt_wire.specs.Messages.Fields.dev_handle_in (asks.frame_asked (ask.Task c.handle abort_task c.smid)))) (sym e) t) a
 
   pub aborts : (n : ℕ) (up : Bool) (c : Option Cmd) (there o : Option ℕ) → finmap.get w.host.cmds n ≡ c → ((s : ℕ) → o ≡ Some s → IsLeast class.High w.host.pool s) → Walks w.host → Walks (aborts_by w.host n up c there o).part
@@ -95,7 +95,7 @@ module _ (w : World) (h : History) (f : Facts w h) (k : History) where
       let in_class = i.inside in
       let d = smid_posted post.HighPriority 0 s 0 (omega arith) (omega (arith, in_class)) in
       let t = handle_of_reset handle (ready_is_handle w.host.phases address handle f.flights.sizes.phases e) in
-      walk.posts w k 0 w.host s (post_descriptor post.HighPriority 0 s 0) (request.TargetReset address) (asks.frame_asked (ask.Task handle target_reset 0)) [] (omega (arith, in_class)) (omega (arith, in_class)) d (ap is_open i.free)
+      walk.posts w k 0 None w.host s (post_descriptor post.HighPriority 0 s 0) (request.TargetReset address) (asks.frame_asked (ask.Task handle target_reset 0)) [] (omega (arith, in_class)) (omega (arith, in_class)) d (ap is_open i.free)
       (ap (λ x. post_descriptor post.HighPriority 0 x 0) (sym d), ap (λ x. asks.frame_asked (ask.Task x target_reset 0)) (sym t), refl) a
 
   pub targets : (address : ℕ) (up : Bool) (handle o : Option ℕ) → ready_handle w.host.phases address ≡ handle → ((s : ℕ) → o ≡ Some s → IsLeast class.High w.host.pool s) → Walks w.host → Walks (resets_target_by w.host address up handle o).part

@@ -40,7 +40,8 @@ use Rattle.law_messages.proofs.PostFields.{handle_of_reset}
 of_disk : (n : ℕ) → removal.is_disk_handle n ≡ true → IsHandle n
 of_disk n e = (grind (arith, e), grind (arith, e))
 
-module _ (w : World) (k : History) (hand : ℕ) where
+-- `fresh` is the number that is accepted meanwhile, if one is
+module _ (w : World) (k : History) (hand : ℕ) (fresh : Option ℕ) where
   -- a world that has these of its host
   abbrev pub With : List (Slot Request) → Cmds → List ℕ → World
   With pool cmds indices = record w { host = record w.host { pool = pool; cmds = cmds; indices = indices } }
@@ -54,6 +55,7 @@ module _ (w : World) (k : History) (hand : ℕ) where
     pub fit : Fits pool cmds indices out
     pub slots : (s : ℕ) (r : Request) → s ≢ hand → slot w.host s ≡ Open r → slot_of pool s ≡ Open r
     pub agree : (s : ℕ) (r : Request) → s ≢ hand → slot w.host s ≡ Open r → CmdsAgree w.host.cmds cmds r
+    pub less : (n : ℕ) (c : Cmd) → finmap.get cmds n ≡ Some c → (finmap.get w.host.cmds n ≡ Some c) ⊎ (fresh ≡ Some n)
 
   abbrev pub Walks : Host → Type 0
   Walks x = Walk x.pool x.cmds x.indices x.out
@@ -63,11 +65,11 @@ module _ (w : World) (k : History) (hand : ℕ) where
   -- items that are no posts
   pub items : (x : Host) (xs : List Down) → how_many is_post xs ≡ 0 → Walks x → Walks (record x { out = x.out ++ xs })
   items x xs z a =
-      record { table = a.table; queues = a.queues; fit = All-append (DownIsRecord (With x.pool x.cmds x.indices) k) x.out xs a.fit (no_posts_fit (With x.pool x.cmds x.indices) k xs z); slots = a.slots; agree = a.agree }
+      record { table = a.table; queues = a.queues; fit = All-append (DownIsRecord (With x.pool x.cmds x.indices) k) x.out xs a.fit (no_posts_fit (With x.pool x.cmds x.indices) k xs z); slots = a.slots; agree = a.agree; less = a.less }
 
   pub one_item : (x : Host) (y : Down) → is_post y ≡ false → Walks x → Walks (record x { out = x.out ++ y ∷ [] })
   one_item x y z a =
-      record { table = a.table; queues = a.queues; fit = all_more (DownIsRecord (With x.pool x.cmds x.indices) k) x.out y a.fit (Rattle.law_messages.proofs.Agreeing.no_post_fits (With x.pool x.cmds x.indices) k y z); slots = a.slots; agree = a.agree }
+      record { table = a.table; queues = a.queues; fit = all_more (DownIsRecord (With x.pool x.cmds x.indices) k) x.out y a.fit (Rattle.law_messages.proofs.Agreeing.no_post_fits (With x.pool x.cmds x.indices) k y z); slots = a.slots; agree = a.agree; less = a.less }
 
   -- a slot that isn't open has no post
   pub unposted : (x : Host) (s : ℕ) → is_open (slot_of x.pool s) ≡ false → Walks x → post_count s x.out ≡ 0
@@ -105,6 +107,7 @@ module _ (w : World) (k : History) (hand : ℕ) where
         fit = all_posted s (DownIsRecord (With x.pool x.cmds x.indices) k) (DownIsRecord (With (set x.pool (s - 1) y) x.cmds x.indices) k) each x.out z a.fit;
         slots = λ q r n e. stays q n (a.slots q r n e) o;
         agree = a.agree;
+        less = a.less;
       }
     where
       short : s - 1 < length x.pool
@@ -140,6 +143,7 @@ module _ (w : World) (k : History) (hand : ℕ) where
             (subst (PostIs (With (set x.pool (s - 1) (Open r)) x.cmds x.indices) k (record { descriptor = d; frame = f; payload = p })) (sym is) (still r g));
         slots = c.slots;
         agree = c.agree;
+        less = c.less;
       }
     where
       is : slot_of (set x.pool (s - 1) (Open r)) (smid_in d) ≡ Open r
@@ -158,7 +162,8 @@ module _ (w : World) (k : History) (hand : ℕ) where
         queues = a.queues;
         fit = all_same (DownIsRecord (With x.pool x.cmds x.indices) k) (DownIsRecord (With x.pool (finmap.remove x.cmds n) x.indices) k) each x.out a.fit;
         slots = a.slots;
-        agree = λ s r d e. cmds_follow w.host.cmds x.cmds (finmap.remove x.cmds n) r (a.agree s r d e) (less s r (a.slots s r d e));
+        agree = λ s r d e. cmds_follow w.host.cmds x.cmds (finmap.remove x.cmds n) r (a.agree s r d e) (fewer s r (a.slots s r d e));
+        less = λ m c g. a.less m c (kept m c g);
       }
     where
       abort : (m : ℕ) → (finmap.get (finmap.remove x.cmds n) m ≡ finmap.get x.cmds m) ⊎ (finmap.get (finmap.remove x.cmds n) m ≡ None)
@@ -168,21 +173,28 @@ module _ (w : World) (k : History) (hand : ℕ) where
           by_key true t = inr (ap (finmap.get (finmap.remove x.cmds n)) (eqb-true m n t) ∙ get_removed x.cmds n)
           by_key false t = inl (get_other_removed x.cmds n m (differ m n t))
 
-      less : (s : ℕ) (r : Request) → slot_of x.pool s ≡ Open r → CmdsAgree x.cmds (finmap.remove x.cmds n) r
-      less s (request.Command m) e = get_other_removed x.cmds n m (λ q. none s (e ∙ ap (λ j. Open (request.Command j)) q))
-      less s (request.Abort m task) e = abort m
-      less s (request.TargetReset address) e = tt
-      less s (request.Leave handle) e = tt
-      less s (request.Page handle) e = tt
-      less s (request.Remove handle) e = tt
-      less s (request.Ack ev context) e = tt
-      less s request.Notification e = tt
-      less s request.PortEnable e = tt
+      kept : (m : ℕ) (c : Cmd) → finmap.get (finmap.remove x.cmds n) m ≡ Some c → finmap.get x.cmds m ≡ Some c
+      kept m c g = by_key (m == n) refl
+        where
+          by_key : (b : Bool) → (m == n) ≡ b → finmap.get x.cmds m ≡ Some c
+          by_key true t = let z : None ≡ Some c = sym (ap (finmap.get (finmap.remove x.cmds n)) (eqb-true m n t) ∙ get_removed x.cmds n) ∙ g in absurd (cc)
+          by_key false t = sym (get_other_removed x.cmds n m (differ m n t)) ∙ g
+
+      fewer : (s : ℕ) (r : Request) → slot_of x.pool s ≡ Open r → CmdsAgree x.cmds (finmap.remove x.cmds n) r
+      fewer s (request.Command m) e = get_other_removed x.cmds n m (λ q. none s (e ∙ ap (λ j. Open (request.Command j)) q))
+      fewer s (request.Abort m task) e = abort m
+      fewer s (request.TargetReset address) e = tt
+      fewer s (request.Leave handle) e = tt
+      fewer s (request.Page handle) e = tt
+      fewer s (request.Remove handle) e = tt
+      fewer s (request.Ack ev context) e = tt
+      fewer s request.Notification e = tt
+      fewer s request.PortEnable e = tt
 
       by_slot : (p : Post) (s : ℕ) (y : Slot Request) → slot_of x.pool s ≡ y → PostIs (With x.pool x.cmds x.indices) k p y → PostIs (With x.pool (finmap.remove x.cmds n) x.indices) k p y
       by_slot p s Free e b = b
       by_slot p s Parked e b = b
-      by_slot p s (Open r) e b = post_moves (With x.pool x.cmds x.indices) k (With x.pool (finmap.remove x.cmds n) x.indices) k refl p r (less s r e) (opens_stay k.machine.requests r) b
+      by_slot p s (Open r) e b = post_moves (With x.pool x.cmds x.indices) k (With x.pool (finmap.remove x.cmds n) x.indices) k refl p r (fewer s r e) (opens_stay k.machine.requests r) b
 
       each : (d : Down) → DownIsRecord (With x.pool x.cmds x.indices) k d → DownIsRecord (With x.pool (finmap.remove x.cmds n) x.indices) k d
       each (down.Post d f p) b = by_slot (record { descriptor = d; frame = f; payload = p }) (smid_in d) (slot_of x.pool (smid_in d)) refl b
@@ -192,16 +204,24 @@ module _ (w : World) (k : History) (hand : ℕ) where
       each down.Stop b = tt
 
   -- a number that no record has, and that wasn't open, is
-  pub names : (x : Host) (n : ℕ) (c : Cmd) → ((s : ℕ) → slot_of x.pool s ≡ Open (request.Command n) → ⊥) → ((s task : ℕ) → slot_of x.pool s ≡ Open (request.Abort n task) → ⊥) → Walks x → Walks (record x { cmds = finmap.insert x.cmds n c })
-  names x n c none none_aborts a =
+  pub names : (x : Host) (n : ℕ) (c : Cmd) → fresh ≡ Some n → ((s : ℕ) → slot_of x.pool s ≡ Open (request.Command n) → ⊥) → ((s task : ℕ) → slot_of x.pool s ≡ Open (request.Abort n task) → ⊥) → Walks x → Walks (record x { cmds = finmap.insert x.cmds n c })
+  names x n c is_fresh none none_aborts a =
       record {
         table = a.table;
         queues = a.queues;
         fit = all_same (DownIsRecord (With x.pool x.cmds x.indices) k) (DownIsRecord (With x.pool (finmap.insert x.cmds n c) x.indices) k) each x.out a.fit;
         slots = a.slots;
         agree = λ s r d e. cmds_follow w.host.cmds x.cmds (finmap.insert x.cmds n c) r (a.agree s r d e) (more s r (a.slots s r d e));
+        less = λ m d g. other m d g;
       }
     where
+      other : (m : ℕ) (d : Cmd) → finmap.get (finmap.insert x.cmds n c) m ≡ Some d → (finmap.get w.host.cmds m ≡ Some d) ⊎ (fresh ≡ Some m)
+      other m d g = by_key (m == n) refl
+        where
+          by_key : (b : Bool) → (m == n) ≡ b → (finmap.get w.host.cmds m ≡ Some d) ⊎ (fresh ≡ Some m)
+          by_key true t = inr (is_fresh ∙ ap Some (sym (eqb-true m n t)))
+          by_key false t = a.less m d (sym (get_other_inserted x.cmds n c m (differ m n t)) ∙ g)
+
       more : (s : ℕ) (r : Request) → slot_of x.pool s ≡ Open r → CmdsAgree x.cmds (finmap.insert x.cmds n c) r
       more s (request.Command m) e = get_other_inserted x.cmds n c m (λ q. none s (e ∙ ap (λ j. Open (request.Command j)) q))
       more s (request.Abort m task) e = inl (get_other_inserted x.cmds n c m (λ q. none_aborts s task (e ∙ ap (λ j. Open (request.Abort j task)) q)))

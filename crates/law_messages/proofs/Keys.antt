@@ -30,3 +30,10 @@ module _ {X : Type 0} (m : finmap.FinMap nat_cmp X) (n : ℕ) where
 
   pub get_removed : finmap.get (finmap.remove m n) n ≡ None
   get_removed = finmap.get-remove nat_cmp_total m n n ∙ ap (λ b. cond b None (finmap.get m n)) (this_key n)
+
+  pub removed_less : (q : ℕ) (x : X) → finmap.get (finmap.remove m n) q ≡ Some x → finmap.get m q ≡ Some x
+  removed_less q x e = by_key (eq_by_cmp nat_cmp q n) (sym (finmap.get-remove nat_cmp_total m n q) ∙ e)
+    where
+      by_key : (b : Bool) → cond b None (finmap.get m q) ≡ Some x → finmap.get m q ≡ Some x
+      by_key true f = absurd (cc)
+      by_key false f = f

@@ -10,6 +10,9 @@ pub mod HostAsks
 pub mod IocQueues
 pub mod TameTold
 pub mod ReadyPlug
+pub mod Walks
+pub mod Leads
 pub mod PostsKept
+pub mod NamedKept
 pub mod AcceptedKept
 pub mod Shown

@@ -10,8 +10,10 @@ use Rattle.law_doors.proofs.StageWorld.{stage_kept}
 use Rattle.law_doors.proofs.Started.{started_kept}
 use Rattle.law_doors.proofs.Whole.{whole_kept}
 use Rattle.law_messages.specs.Numbers.{AbortsAreAccepted}
+use Rattle.law_messages.specs.Commands.{CommandsKnown}
 use Rattle.law_messages.specs.Posts.{PostsStand}
 use Rattle.law_messages.proofs.AcceptedKept as accepted
+use Rattle.law_messages.proofs.NamedKept.{named_kept, unknown_kept}
 use Rattle.law_messages.proofs.PostsKept as posts
 
 module _ (w : World) (h : History) (c : Case) (f : Facts w h) (plain : NothingIsStrange w) where
@@ -23,6 +25,11 @@ module _ (w : World) (h : History) (c : Case) (f : Facts w h) (plain : NothingIs
 
   pub posts_kept : AbortsAreAccepted w → PostsStand (happens w c) (history_after h (entries w c))
   posts_kept a = posts.posts_kept w h before a c behind
+
+  pub commands_known : AbortsAreAccepted w → CommandsKnown (happens w c) (history_after h (entries w c))
+  commands_known a =
+      let l = posts.leads w h before a c behind in
+      record { named = named_kept w h f (happens w c) (history_after h (entries w c)) l; unknown = unknown_kept w h f (happens w c) (history_after h (entries w c)) l }
 
   pub aborts_stay : AbortsAreAccepted w → AbortsAreAccepted (happens w c)
   aborts_stay a = accepted.aborts_stay_accepted w h f plain a c

@@ -44,6 +44,7 @@ word_tame (entry.Bind handle address plug) w = tt
 word_tame (entry.Unbind handle) w = tt
 word_tame (entry.Accept n a s) w = absurd w
 word_tame (entry.Answer n how) w = absurd w
+word_tame (entry.Run a q) w = absurd w
 word_tame _ w = tt
 
 words_tame : (t : List Entry) → EachEntry IsIocWord t → EachEntry IsTame t
@@ -75,6 +76,7 @@ plug_tame (entry.Given i) w = tt
 plug_tame (entry.Refuse call cause) w = tt
 plug_tame (entry.Accept n a s) w = absurd w
 plug_tame (entry.Answer n how) w = absurd w
+plug_tame (entry.Run a q) w = absurd w
 plug_tame _ w = tt
 
 pub plugs_tame : (t : List Entry) → EachEntry IsPlugWord t → EachEntry IsTame t

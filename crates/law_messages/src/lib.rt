@@ -3,4 +3,7 @@
 
 mod laws;
 
-pub use laws::{aborts_are_of_accepted, aborts_are_of_accepted_at_first, posts_are_kept};
+pub use laws::{
+    aborts_are_of_accepted, aborts_are_of_accepted_at_first, open_commands_are_known,
+    posts_are_kept,
+};
