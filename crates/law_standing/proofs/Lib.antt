@@ -1,0 +1,5 @@
+pub mod Outcomes
+pub mod PostsPass
+pub mod RepliesPass
+pub mod EntriesPass
+pub mod Shown
