@@ -1,0 +1,4 @@
+pub mod RingWalk
+pub mod Indices
+pub mod Quiet
+pub mod IndicesKept

@@ -1,0 +1,7 @@
+//! Laws of what ties entries beside the paths and the handles. The functions do nothing: what their contracts say is all
+//! that they are for.
+#![tactic(auto)]
+
+mod laws;
+
+pub use laws::{indices_are_kept, indices_are_of_queues_at_first, indices_go_on};
