@@ -67,7 +67,7 @@ use Rattle.law_flights.proofs.Tables.{held_as-nil}
 use Rattle.law_flights.proofs.Told.{IsTold}
 use Rattle.law_moves.proofs.Counted.{behind-cons, false_by_none, fewer_pass, how_many-cons}
 use Rattle.law_moves.proofs.Hears.{is_reset_stage}
-use Rattle.law_moves.proofs.HostGoes.{AMark, AValue, Heard, HostGoes, NoNews, Values, is_value, value_is_due}
+use Rattle.law_moves.proofs.HostGoes.{AMark, AValue, Heard, HostGoes, NoNews, Values, heard_of, is_value, value_is_due}
 use Rattle.law_moves.proofs.Phases.{and_false}
 use Rattle.law_moves.proofs.Registers.{writes_are}
 use Rattle.law_moves.proofs.Valuing.{HearsValue, IsOverNow, IsReady, SpeaksOn, TurnsOn, UnitLate}
@@ -326,19 +326,26 @@ module _ (w : World) (h : History) (f : Facts w h) (plain : NothingIsStrange w) 
   linked_by k (AMark queue) y m n g = absurd (cc)
   linked_by k AValue y m n (Values r v front hears) = linked_by_value k m n hears
 
-  -- the stage of the host's machine once it has taken the value
-  stage_after : (v : ℕ) (rest : List Up) → up_on w 0 ≡ up.Value v ∷ rest → StageFits (record (with_up w 0 rest) { host = (hears_up w.host 0 (up.Value v)).part })
-  stage_after v rest e =
-      subst (λ o. StageFits (move.host_took (with_up w 0 rest) 0 (up.Value v) (takes_unless w.host 0 (up.Value v) o)).part) (not_strange 0 (up.Value v) rest e)
-      (subst (λ xs. StageFits (moves_or_idles w choice.HostTake (move.host_takes w 0 xs)).part) e (stage_kept w h b (Chosen choice.HostTake)))
+  -- the stage of the host's machine once it has taken an item
+  stage_after : (queue : ℕ) (x : Up) (rest : List Up) → up_on w queue ≡ x ∷ rest → StageFits (record (with_up w queue rest) { host = (hears_up w.host queue x).part })
+  stage_after queue x rest e =
+      subst (λ o. StageFits (move.host_took (with_up w queue rest) queue x (takes_unless w.host queue x o)).part) (not_strange queue x rest e) (taken queue e)
+    where
+      taken : (queue : ℕ) → up_on w queue ≡ x ∷ rest → StageFits (move.host_took (with_up w queue rest) queue x (takes_unless w.host queue x (why_strange w.host queue x))).part
+      taken zero e = subst (λ xs. StageFits (moves_or_idles w choice.HostTake (move.host_takes w 0 xs)).part) e (stage_kept w h b (Chosen choice.HostTake))
+      taken (suc q) e = subst (λ xs. StageFits (moves_or_idles w (choice.HostTakeOn (suc q)) (move.host_takes w (suc q) xs)).part) e (stage_kept w h b (Chosen (choice.HostTakeOn (suc q))))
+
+  -- what the host makes of an item that it takes
+  pub goes : (queue : ℕ) (x : Up) (rest : List Up) → up_on w queue ≡ x ∷ rest → HostGoes w (hears_up w.host queue x).part (heard_of queue x)
+  goes queue x rest e = takes_item w h b queue x rest e (not_strange queue x rest e) (stage_after queue x rest e)
 
   by_value_linked : (v : ℕ) (rest : List Up) → up_on w 0 ≡ up.Value v ∷ rest → list_any is_reset_end (hears_up w.host 0 (up.Value v)).entries ≡ true → IsLast
   by_value_linked v rest e r =
       let z = value_ends v w.host.machine refl r in
-      let l = linked_by (hears_up w.host 0 (up.Value v)).part AValue refl z.1 z.0.over (takes_item w h b 0 (up.Value v) rest e (not_strange 0 (up.Value v) rest e) (stage_after v rest e)) in
+      let l = linked_by (hears_up w.host 0 (up.Value v)).part AValue refl z.1 z.0.over (goes 0 (up.Value v) rest e) in
       record { linked = l; lanes = by_value v rest e l z.0.all_marks }
 
-  last : (queue : ℕ) (x : Up) (rest : List Up) → up_on w queue ≡ x ∷ rest → list_any is_reset_end (hears_up w.host queue x).entries ≡ true → IsLast
+  pub last : (queue : ℕ) (x : Up) (rest : List Up) → up_on w queue ≡ x ∷ rest → list_any is_reset_end (hears_up w.host queue x).entries ≡ true → IsLast
   last queue (up.Mark generation) rest e r =
       let q = over_marks (record w.host { marks = slice_set w.host.marks queue true }) r in
       record { linked = (clock.value_is_last.ready q.0).linked; lanes = by_mark queue generation rest e q.0 q.1 }
