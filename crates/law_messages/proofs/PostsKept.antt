@@ -206,7 +206,7 @@ module _ (w : World) (h : History) (f : Facts w h) where
   ready_resets_of e = (and_false (is_resetting w.host.mode) _ (and_false (in_begun w) (is_ready (state_of w.ioc)) (f.clock.value_is_last.ready e).linked).0).0
 
 -- one that passes
-found_passes : {X : Type 0} (test : X → Bool) (xs : List X) (x : X) → find test xs ≡ Some x → test x ≡ true
+pub found_passes : {X : Type 0} (test : X → Bool) (xs : List X) (x : X) → find test xs ≡ Some x → test x ≡ true
 found_passes test [] x e = absurd (cc)
 found_passes test (y ∷ ys) x e = by_test (test y) refl e (found_passes test ys x)
   where
@@ -214,7 +214,7 @@ found_passes test (y ∷ ys) x e = by_test (test y) refl e (found_passes test ys
     by_test true t f h = let same : y ≡ x = cc in subst (λ z. test z ≡ true) same t
     by_test false t f h = h f
 
-found_all : {X : Type 0} (P : X → Type 0) (test : X → Bool) (xs : List X) (x : X) → find test xs ≡ Some x → All P xs → P x
+pub found_all : {X : Type 0} (P : X → Type 0) (test : X → Bool) (xs : List X) (x : X) → find test xs ≡ Some x → All P xs → P x
 found_all P test [] x e a = absurd (cc)
 found_all P test (y ∷ ys) x e a = by_test (test y) e (λ f. found_all P test ys x f (All-tail P y ys a))
   where
@@ -222,7 +222,7 @@ found_all P test (y ∷ ys) x e a = by_test (test y) e (λ f. found_all P test y
     by_test true f h = let same : y ≡ x = cc in subst P same (All-head P y ys a)
     by_test false f h = h f
 
-found_counts : {X : Type 0} (test : X → Bool) (xs : List X) (x : X) → find test xs ≡ Some x → 1 ≤ how_many test xs
+pub found_counts : {X : Type 0} (test : X → Bool) (xs : List X) (x : X) → find test xs ≡ Some x → 1 ≤ how_many test xs
 unfolding how_many
 found_counts test [] x e = absurd (cc)
 found_counts test (y ∷ ys) x e = by_test (test y) e (found_counts test ys x)

@@ -1,15 +1,12 @@
 -- A reply that the facts know is one of the controller's as it is put.
 use Rattle.std.proofs.Common.{◌≡◌, ◌≢◌, ℕ, zero, suc, ◌+◌, ◌-◌, ◌*◌, ◌/◌, ◌%◌, ◌^◌, ◌<◌, ◌≤◌, ◌==◌, ◌&&◌, ◌⊎◌, inl, inr, nat_lt, Bool, true, false, if◌then◌else◌, List, [], ◌∷◌, ◌++◌, drop, get_or-drop, length, replicate, slice_index, IsTrue, Option, Some, None, option_map, refl, ap, sym, ◌∙◌, subst, arith}
 use Rattle.std.specs.FinMap as finmap
-use Rattle.byteorder.specs.Numbers.{little_from-lt}
-use Rattle.hex.specs.Hex.{IsBytes}
 use Rattle.event_msgs.specs.EventAckReply.{event_ack_reply_layout, event_ack_reply_values}
 use Rattle.event_msgs.specs.declared.event_ack_reply.EventAckReply.{EventAckReply}
 use Rattle.ioc_msgs.specs.PortEnableReply.{port_enable_reply_layout, port_enable_reply_values}
 use Rattle.ioc_msgs.specs.declared.port_enable_reply.PortEnableReply.{PortEnableReply}
 use Rattle.std.proofs.lemmas.Bool.Decides.{nat_tests}
-use Rattle.mpi_layout.specs.Rows.{field, values_fit}
-use Rattle.mpi_layout.proofs.Fields.{field_reads}
+use Rattle.mpi_layout.specs.Rows.{values_fit}
 use Rattle.scsi_disk.specs.Command.{fits, is_write}
 use Rattle.scsi_disk.specs.declared.command.Command.{Command}
 use Rattle.scsi_disk.specs.declared.scsi_result.ScsiResult.{ScsiResult}
@@ -47,15 +44,7 @@ use Rattle.law_facts.specs.Messages.{AnswersBy, AnswersCommand, IsEvent, IsPageR
 use Rattle.law_facts.specs.Words.{slot}
 use Rattle.law_flights.proofs.Descriptors.{smid_addressed, smid_succeeded}
 use Rattle.law_messages.proofs.Known.{classed, inside}
-use Rattle.law_standing.specs.Written.{FrameIsWritten, IsWritten, OutcomesFit}
-
--- ---- fields of bytes
-
-dropped : (xs : List ℕ) (at k : ℕ) → slice_index (drop at xs) k ≡ slice_index xs (at + k)
-dropped xs at k = get_or-drop at xs k 0
-
-pub field_lt : (xs : List ℕ) (at n : ℕ) → IsBytes xs → field xs at n < 256 ^ n
-field_lt xs at n b = subst (λ z. z < 256 ^ n) (field_reads xs at n) (little_from-lt 0 n (drop at xs) (λ k. subst (λ z. z < 256) (sym (dropped xs at k)) (b (at + k))))
+use Rattle.law_standing.specs.Written.{FieldsFit, FrameIsWritten, IsWritten, OutcomesFit}
 
 -- ---- the descriptor of a framed reply
 
@@ -138,15 +127,14 @@ scsi frame page sense handle s status code moved sense_count e a b c d f g =
     }
 
 -- task management's
-task : (frame page : List ℕ) (task_type : ℕ) → IsBytes frame → task_type < 2 ^ 8 → IsTaskReply task_type frame → page ≡ [] → Written frame page []
+task : (frame page : List ℕ) (task_type : ℕ) → FieldsFit frame → task_type < 2 ^ 8 → IsTaskReply task_type frame → page ≡ [] → Written frame page []
 task frame page task_type b l e p =
-    let h = field_lt frame 0 2 b in let c = field_lt frame 0x14 4 b in
     record {
       reply = reply.Task (dev_handle_in frame) task_type IOC_STATUS_SUCCESS 0 (termination_count_in frame);
       allowed = tt;
       framed = e;
       message = message.TaskReply (ioc_frames.task_answered (dev_handle_in frame) task_type IOC_STATUS_SUCCESS 0 (termination_count_in frame));
-      stands = reply_frame_stands (reply.Task (dev_handle_in frame) task_type IOC_STATUS_SUCCESS 0 (termination_count_in frame)) (fit.task_fits (dev_handle_in frame) task_type IOC_STATUS_SUCCESS 0 (termination_count_in frame) h l (omega arith) (omega arith) c) tt;
+      stands = reply_frame_stands (reply.Task (dev_handle_in frame) task_type IOC_STATUS_SUCCESS 0 (termination_count_in frame)) (fit.task_fits (dev_handle_in frame) task_type IOC_STATUS_SUCCESS 0 (termination_count_in frame) b.0 l (omega arith) (omega arith) b.2) tt;
       answers = refl;
       carries = (p, refl);
     }
@@ -249,12 +237,12 @@ module _ (w : World) (h : History) (f : Facts w h) (o : OutcomesFit h) where
 
   framed : (s queue : ℕ) (frame page sense : List ℕ) (r : Request) → slot w.host s ≡ Open r → s < 2 ^ 16 → FrameIsWritten s frame page → AnswersBy w h queue s (said.Framed s frame page sense) (Open r) → Written frame page sense
   framed s queue frame page sense (request.Command n) e l b a = command s n frame page sense l (finmap.get w.host.cmds n) (finmap.get h.machine.requests n) refl refl a.1
-  framed s queue frame page sense (request.Abort n t) e l b a = let y = a.2 in no_sense a.1 (task frame page abort_task (b.bytes (let k = classed w h f s (request.Abort n t) e in omega (arith, k))) (omega arith) y.0 y.1)
+  framed s queue frame page sense (request.Abort n t) e l b a = let y = a.2 in no_sense a.1 (task frame page abort_task (b.fields (let k = classed w h f s (request.Abort n t) e in omega (arith, k))) (omega arith) y.0 y.1)
     where
       no_sense : sense ≡ [] → Written frame page [] → Written frame page sense
       no_sense z x = subst (Written frame page) (sym z) x
-  framed s queue frame page sense (request.TargetReset address) e l b a = let y = a.2 in subst (Written frame page) (sym a.1) (task frame page target_reset (b.bytes (let k = classed w h f s (request.TargetReset address) e in omega (arith, k))) (omega arith) y.0 y.1)
-  framed s queue frame page sense (request.Leave handle) e l b a = let y = a.2 in subst (Written frame page) (sym a.1) (task frame page target_reset (b.bytes (let k = classed w h f s (request.Leave handle) e in omega (arith, k))) (omega arith) y.0 y.2)
+  framed s queue frame page sense (request.TargetReset address) e l b a = let y = a.2 in subst (Written frame page) (sym a.1) (task frame page target_reset (b.fields (let k = classed w h f s (request.TargetReset address) e in omega (arith, k))) (omega arith) y.0 y.1)
+  framed s queue frame page sense (request.Leave handle) e l b a = let y = a.2 in subst (Written frame page) (sym a.1) (task frame page target_reset (b.fields (let k = classed w h f s (request.Leave handle) e in omega (arith, k))) (omega arith) y.0 y.2)
   framed s queue frame page sense (request.Page handle) e l b a = subst (Written frame page) (sym a.1) (page_read s handle frame page (let k = classed w h f s (request.Page handle) e in omega (arith, k)) b a.2)
   framed s queue frame page sense (request.Remove handle) e l b a =
       let y = a.2 in let k = record_fits s (request.Remove handle) e in
@@ -274,7 +262,7 @@ module _ (w : World) (h : History) (f : Facts w h) (o : OutcomesFit h) where
         allowed = tt;
         framed = y.0;
         message = message.EventAckReply (ack_reply (ioc_status_in frame));
-        stands = acked (ioc_status_in frame) (field_lt frame 0x0e 2 (b.bytes (let k = classed w h f s (request.Ack ev context) e in omega (arith, k))));
+        stands = acked (ioc_status_in frame) (let z = b.fields (let k = classed w h f s (request.Ack ev context) e in omega (arith, k)) in z.1);
         answers = refl;
         carries = (y.1, a.1);
       }

@@ -1,10 +1,10 @@
 -- What is known of results and of replies beside the facts: they fit the fields of messages.
 use Rattle.std.specs.Prelude.{◌≡◌, ℕ, ◌^◌, ◌<◌, ◌≤◌, All, Bool, List, true, length, Some}
-use Rattle.hex.specs.Hex.{IsBytes}
 use Rattle.scsi_disk.specs.declared.scsi_result.ScsiResult.{ScsiResult}
 use Rattle.mpt_messages.specs.IocFrames.{reply_frame}
 use Rattle.mpt_messages.specs.declared.ioc_reply.IocReply.TheVariants as reply
 use Rattle.mpt_wire.specs.Handles.Names.{is_device_page}
+use Rattle.mpt_wire.specs.Messages.Fields.{dev_handle_in, ioc_status_in, termination_count_in}
 use Rattle.mpt_wire.specs.Messages.Standing.{IsDiskPage}
 use Rattle.mpt_rules.specs.declared.said.Said.{Said}
 use Rattle.mpt_rules.specs.declared.said.Said.TheVariants as said
@@ -30,10 +30,14 @@ pub record EventIsWritten (frame : List ℕ) : Type 0 where
   pub fits : (context < 2 ^ 32) × (handle < 2 ^ 16) × (expander < 16) × (phys < 2 ^ 8) × (phy < 2 ^ 8)
   pub is : frame ≡ reply_frame (reply.Topology context handle expander phys phy added)
 
--- a reply to task management, or to a request of the internal class, has bytes; a disk's page is as the controller writes it
+-- the numbers of a reply's frame that have no other bound
+abbrev pub FieldsFit : List ℕ → Type 0
+FieldsFit frame = (dev_handle_in frame < 2 ^ 16) × (ioc_status_in frame < 2 ^ 16) × (termination_count_in frame < 2 ^ 32)
+
+-- a reply to task management, or to a request of the internal class, has numbers that fit; a disk's page is as the controller writes it
 pub record FrameIsWritten (smid : ℕ) (frame page : List ℕ) : Type 0 where
   pub event : smid ≡ 0 → EventIsWritten frame
-  pub bytes : 257 ≤ smid → IsBytes frame
+  pub fields : 257 ≤ smid → FieldsFit frame
   pub disk_page : 265 ≤ smid → is_device_page frame page ≡ true → IsDiskPage page
 
 abbrev pub IsWritten : Said → Type 0

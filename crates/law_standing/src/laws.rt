@@ -4,8 +4,9 @@ ghost use Rattle.mpt_trace.specs.declared.disk_spec.DiskSpec.{DiskSpec};
 ghost use Rattle.mpt_trace.specs.declared.entry.Entry.{Entry};
 ghost use Rattle.mpt_wire.specs.Messages.Standing.{MessageAsks};
 ghost use Rattle.mpt_wire.specs.Walks.Passes.{EachEntry};
-ghost use Rattle.mpt_rules.specs.World.Cases.{Case, entries};
+ghost use Rattle.mpt_rules.specs.World.Cases.{Case, entries, happens};
 ghost use Rattle.mpt_rules.specs.Law.{NothingIsStrange};
+ghost use Rattle.mpt_rules.specs.World.Settings.{Setting, first_world};
 ghost use Rattle.mpt_rules.specs.World.State.{World, queues_of};
 ghost use Rattle.law_facts.specs.Facts.{Facts};
 ghost use Rattle.law_facts.specs.History.{History, first_history, history_after};
@@ -25,4 +26,15 @@ pub fn outcomes_stay_fit()
 /// At first no disk has answered anything.
 pub fn outcomes_fit_at_first()
     ensures { (disks : List DiskSpec) → OutcomesFit (first_history disks) }
+{}
+
+/// Where all facts hold of a world and nothing on its way is strange to the host, each case keeps that the replies in the
+/// controller's outboxes are as it writes them.
+pub fn replies_stay_written()
+    ensures { (w : World) (h : History) (c : Case) → Facts w h → NothingIsStrange w → RepliesAreWritten w → RepliesAreWritten (happens w c) }
+{}
+
+/// At first nothing waits in the controller's outboxes.
+pub fn replies_are_written_at_first()
+    ensures { (s : Setting) → RepliesAreWritten (first_world s) }
 {}

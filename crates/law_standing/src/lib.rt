@@ -4,4 +4,7 @@
 
 mod laws;
 
-pub use laws::{messages_pass, outcomes_fit_at_first, outcomes_stay_fit};
+pub use laws::{
+    messages_pass, outcomes_fit_at_first, outcomes_stay_fit, replies_are_written_at_first,
+    replies_stay_written,
+};
