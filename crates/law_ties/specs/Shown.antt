@@ -1,11 +1,11 @@
 -- What is tied, as it is shown of the world behind a case and of the case's entries.
-use Rattle.std.specs.Prelude.{◌≡◌, ℕ, ◌<◌, ◌==◌, ◌||◌, not, nat_lt, Bool, true, List}
+use Rattle.std.specs.Prelude.{◌≡◌, ℕ, ◌<◌, ◌==◌, ◌||◌, not, nat_lt, Bool, true, false, List}
 use Rattle.mpi_doorbell.specs.declared.registers.TheConstants.{REPLY_POST_HOST_INDEX}
 use Rattle.mpt_trace.specs.declared.entry.Entry.{Entry}
 use Rattle.mpt_trace.specs.declared.item.Down.{Down}
 use Rattle.mpt_trace.specs.declared.item.Down.TheVariants as down
-use Rattle.mpt_wire.specs.Messages.Registers.{IndicesAsk, RingAsks, indices_next, queue_in, ring_next}
-use Rattle.mpt_wire.specs.Walks.Passes.{Passes}
+use Rattle.mpt_wire.specs.Messages.Registers.{IndicesAsk, RingAsks, UnbindsAtResets, indices_next, is_reset_write, queue_in, ring_next}
+use Rattle.mpt_wire.specs.Walks.Passes.{Passes, state_after}
 use Rattle.mpt_rules.specs.Host.Parts.{host_queue_count}
 use Rattle.mpt_rules.specs.World.State.{World}
 use Rattle.law_facts.specs.History.{History}
@@ -36,3 +36,10 @@ IndicesPass h t = Passes indices_next IndicesAsk h.indices t
 
 abbrev pub RingPasses : History → List Entry → Type 0
 RingPasses h t = Passes ring_next RingAsks h.ring t
+
+-- ---- resets
+
+-- `unbind all` stands right behind each taking of a write that begins a reset, and nowhere else; none such is the last
+pub record ResetsUnbind (t : List Entry) : Type 0 where
+  pub passes : UnbindsAtResets t
+  pub done : state_after (λ (due : Bool) e. is_reset_write e) false t ≡ false

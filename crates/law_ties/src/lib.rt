@@ -4,4 +4,7 @@
 
 mod laws;
 
-pub use laws::{indices_are_kept, indices_are_of_queues_at_first, indices_go_on};
+pub use laws::{
+    indices_are_kept, indices_are_of_queues_at_first, indices_go_on, replies_take_the_first_frame,
+    resets_unbind, rings_are_kept,
+};
