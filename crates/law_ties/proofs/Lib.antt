@@ -5,3 +5,5 @@ pub mod IndicesKept
 pub mod Steady
 pub mod ResetsUnbind
 pub mod RingKept
+pub mod HoldersKept
+pub mod SoFarKept

@@ -43,3 +43,9 @@ RingPasses h t = Passes ring_next RingAsks h.ring t
 pub record ResetsUnbind (t : List Entry) : Type 0 where
   pub passes : UnbindsAtResets t
   pub done : state_after (λ (due : Bool) e. is_reset_write e) false t ≡ false
+
+-- ---- what was said so far
+
+-- the rule of least posts and the view have the same of it
+abbrev pub WordsAgree : History → Type 0
+WordsAgree h = h.giving.so_far ≡ h.so_far

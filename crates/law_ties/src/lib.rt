@@ -5,6 +5,7 @@
 mod laws;
 
 pub use laws::{
-    indices_are_kept, indices_are_of_queues_at_first, indices_go_on, replies_take_the_first_frame,
-    resets_unbind, rings_are_kept,
+    holders_agree_at_first, holders_are_kept, indices_are_kept, indices_are_of_queues_at_first,
+    indices_go_on, least_identifiers_are_accepted, replies_take_the_first_frame, resets_unbind,
+    rings_are_kept, words_agree,
 };
