@@ -29,7 +29,7 @@ use Rattle.law_parties.proofs.Owned.{fabric_owned, ioc_owned}
 use Rattle.law_identifiers.proofs.Holders.{is_of_number, is_under, slot_as, slot_by, state_by, stays}
 use Rattle.law_identifiers.proofs.HeldSlots.{Holds, Stands}
 use Rattle.law_identifiers.proofs.LeastTaken.{AllHold, Takes, fabric_silent, host_takes, ioc_silent, others_take}
-use Rattle.law_places.specs.Further.{AbortsAreKnown}
+use Rattle.law_records.specs.Records.{AbortsAreKnown}
 use Rattle.law_ties.specs.Holders.{HolderAgrees, HoldersAgree, HoldersKept, LeastPasses, is_holder_of}
 
 -- ---- the holder of 0 doesn't matter

@@ -8,7 +8,7 @@ ghost use Rattle.mpt_rules.specs.World.State.{World};
 ghost use Rattle.law_facts.specs.Facts.{Facts};
 ghost use Rattle.law_facts.specs.History.{History, first_history, history_after};
 ghost use Rattle.law_facts.specs.Ties.{RingsTied};
-ghost use Rattle.law_places.specs.Further.{AbortsAreKnown};
+ghost use Rattle.law_records.specs.Records.{AbortsAreKnown};
 ghost use Rattle.law_ties.specs.Holders.{HoldersAgree, HoldersKept, LeastPasses};
 ghost use Rattle.law_ties.specs.Shown.{IndicesAreOfQueues, IndicesKept, IndicesPass, ResetsUnbind, RingPasses, WordsAgree};
 
