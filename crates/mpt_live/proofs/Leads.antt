@@ -16,7 +16,7 @@ module _ {P C : Type 0} (does : P → C → Happening P) where
   pub leads_far : (a b c : Recorded P) → LeadsTo does a b → LeadsTo does b c → LeadsTo does a c
   leads_far a b c p q = record { cases = p.cases ++ q.cases; led = leads_on p.cases q.cases a b c p.led q.led }
 
-  leads_by : (a b : Recorded P) (c : At C) → a.clock < c.stamp → b ≡ after_case does a c → LeadsTo does a b
+  pub leads_by : (a b : Recorded P) (c : At C) → a.clock < c.stamp → b ≡ after_case does a c → LeadsTo does a b
   leads_by a b c later is = record { cases = c ∷ []; led = (later, sym is) }
 
   -- from where the party was, whatever it is called
@@ -29,7 +29,7 @@ module _ {P C : Type 0} (does : P → C → Happening P) where
   steps_lead a b true p = p
   steps_lead a b false is = record { cases = []; led = sym is }
 
-  steps_made : (c : C) (a b : Recorded P) (made : Bool) → Made does c a made b → Steps does a made b
+  pub steps_made : (c : C) (a b : Recorded P) (made : Bool) → Made does c a made b → Steps does a made b
   steps_made c a b true is = leads_by a b (record { stamp = next_stamp a; value = c }) (omega arith) is
   steps_made c a b false is = is
 

@@ -1,4 +1,11 @@
 pub mod Leads
+mod Kept
+mod Led
+mod Several
+mod Opened
+mod FabricKeeps
+mod IocKeeps
+mod HostKeeps
 mod Plugs
 mod Farther
 mod Granted

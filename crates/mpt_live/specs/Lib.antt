@@ -5,3 +5,4 @@ pub mod Ends
 pub mod Lanes
 pub mod Recorded
 pub mod Submitters
+pub mod Traffic

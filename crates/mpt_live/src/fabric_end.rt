@@ -1,7 +1,9 @@
 //! The fabric's end.
 ghost use Rattle.std.specs.Prelude.{◌≡◌, ◌<◌, ◌≤◌, ◌^◌, [], true, IfOk, IsErr, OnErr, OnOk};
 ghost use Rattle.mpt_rules.specs.Session.OpenCases.{fabric_does};
-ghost use Rattle.mpt_live.specs.Recorded.{LeadsTo, Steps};
+ghost use Rattle.mpt_live.specs.Ends.{EndSteps, fabric_account};
+ghost use Rattle.mpt_live.specs.Recorded.{LeadsTo};
+ghost use Rattle.mpt_live.specs.Traffic.{KeepsLanes};
 
 use crate::giving::Giving;
 use crate::pumped::Pumped;
@@ -38,8 +40,8 @@ const ORDER: [FabricWork; 7] = [
     FabricWork::Calm,
 ];
 
-/// The fabric with its lanes and its lines. A contract sees its rules' record with its journal and its clock, whether
-/// it has ended, and whether memory was wanting.
+/// The fabric with its lanes and its lines. A contract sees its rules' record with its journal and its clock, what went
+/// through its ends of the lanes, whether it has ended, and whether memory was wanting.
 #[derive(Drop)]
 pub struct FabricEnd<'a> {
     alloc: Global,
@@ -64,10 +66,11 @@ pub struct FabricEnd<'a> {
 impl<'a> Model for FabricEnd<'a> {
     ghost use Rattle.mpt_rules.specs.Fabric.Parts.{Fabric};
     ghost use Rattle.mpt_live.specs.Ends.{End};
+    ghost use Rattle.mpt_live.specs.Traffic.{FabricLanes};
 
-    ghost Value = { End Fabric };
+    ghost Value = { End Fabric FabricLanes };
 
-    ghost view = { λ e. record { recorded = e.recorded; has_ended = e.ended; is_spent = e.spent } };
+    ghost view = { λ e. record { recorded = e.recorded; lanes = record { out = e.out; back = e.back }; has_ended = e.ended; is_spent = e.spent } };
 }
 
 impl<'a> FabricEnd<'a> {
@@ -81,7 +84,8 @@ impl<'a> FabricEnd<'a> {
         out: Taking<'a, Out>,
         back: Giving<'a, Back>,
     ) -> FabricEnd<'a>
-        ensures { result.recorded ≡ record { part = fabric; row = record { party = Party.Fabric; moments = [] }; clock = 0 } }
+        ensures recorded { result.recorded ≡ record { part = fabric; row = record { party = Party.Fabric; moments = [] }; clock = 0 } }
+        ensures lanes { result.lanes ≡ record { out = out.entry; back = back.entry } }
     {
         FabricEnd {
             alloc,
@@ -99,10 +103,11 @@ impl<'a> FabricEnd<'a> {
         }
     }
 
-    /// Makes at most so many moves, each a case of the fabric, and waits for nothing. After OutOfMemory each further
-    /// call answers OutOfMemory.
+    /// Makes at most so many moves, each a case of the fabric, and waits for nothing. What goes through the lanes is what
+    /// the journal records. After OutOfMemory each further call answers OutOfMemory.
     pub fn pump<R: Wait>(&mut self, rt: &R, quota: u32) -> Result<Pumped, OutOfMemory>
         ensures cases { OnOk result (LeadsTo fabric_does self.old.recorded self.new.recorded) }
+        ensures lanes { OnOk result (KeepsLanes (fabric_account self.old) (fabric_account self.new)) }
         ensures ended { IfOk result (λ pumped. pumped.ended ≡ self.new.has_ended) }
         ensures few { IfOk result (λ pumped. pumped.moves ≤ quota) }
         ensures spent { self.old.is_spent ≡ true → IsErr result }
@@ -126,6 +131,7 @@ impl<'a> FabricEnd<'a> {
     // Makes at most so many moves, and answers how many.
     fn make_moves<R: Wait>(&mut self, rt: &R, quota: u32) -> Result<u32, OutOfMemory>
         ensures cases { OnOk result (LeadsTo fabric_does self.old.recorded self.new.recorded) }
+        ensures lanes { OnOk result (KeepsLanes (fabric_account self.old) (fabric_account self.new)) }
         ensures few { IfOk result (λ moves. moves ≤ quota) }
     {
         self.line_due = true;
@@ -139,7 +145,7 @@ impl<'a> FabricEnd<'a> {
 
     // Makes one move, the first in the order that can be made. False where none can.
     fn make_move<R: Wait>(&mut self, rt: &R) -> Result<bool, OutOfMemory>
-        ensures { IfOk result (λ made. Steps fabric_does self.old.recorded made self.new.recorded) }
+        ensures { IfOk result (λ made. EndSteps fabric_does fabric_account self.old made self.new) }
     {
         if self.ended || self.recorded.clock() >= LAST_STAMP {
             return Ok(false);
@@ -156,7 +162,7 @@ impl<'a> FabricEnd<'a> {
     // Makes a move of this kind. False where there is none to make.
     fn work<R: Wait>(&mut self, rt: &R, work: FabricWork) -> Result<bool, OutOfMemory>
         requires { self.old.recorded.clock < 2 ^ 61 }
-        ensures { IfOk result (λ made. Steps fabric_does self.old.recorded made self.new.recorded) }
+        ensures { IfOk result (λ made. EndSteps fabric_does fabric_account self.old made self.new) }
     {
         match work {
             FabricWork::PutBack => self.put_back(rt),
@@ -171,7 +177,7 @@ impl<'a> FabricEnd<'a> {
 
     fn put_back<R: Wait>(&mut self, rt: &R) -> Result<bool, OutOfMemory>
         requires { self.old.recorded.clock < 2 ^ 61 }
-        ensures { IfOk result (λ put. Steps fabric_does self.old.recorded put self.new.recorded) }
+        ensures { IfOk result (λ put. EndSteps fabric_does fabric_account self.old put self.new) }
     {
         self.recorded.put_back(rt, &mut self.back)
     }
@@ -179,7 +185,7 @@ impl<'a> FabricEnd<'a> {
     // Does the next line, if it is one that comes before the first item.
     fn do_first_line(&mut self) -> Result<bool, OutOfMemory>
         requires { self.old.recorded.clock < 2 ^ 61 }
-        ensures { IfOk result (λ did. Steps fabric_does self.old.recorded did self.new.recorded) }
+        ensures { IfOk result (λ did. EndSteps fabric_does fabric_account self.old did self.new) }
     {
         if self.next >= self.first {
             return Ok(false);
@@ -190,7 +196,7 @@ impl<'a> FabricEnd<'a> {
     // Does the next line, the first of this pump.
     fn do_due_line(&mut self) -> Result<bool, OutOfMemory>
         requires { self.old.recorded.clock < 2 ^ 61 }
-        ensures { IfOk result (λ did. Steps fabric_does self.old.recorded did self.new.recorded) }
+        ensures { IfOk result (λ did. EndSteps fabric_does fabric_account self.old did self.new) }
     {
         if !self.line_due {
             return Ok(false);
@@ -202,7 +208,7 @@ impl<'a> FabricEnd<'a> {
     // Does the next line. False where there is none.
     fn do_line(&mut self) -> Result<bool, OutOfMemory>
         requires { self.old.recorded.clock < 2 ^ 61 }
-        ensures { IfOk result (λ did. Steps fabric_does self.old.recorded did self.new.recorded) }
+        ensures { IfOk result (λ did. EndSteps fabric_does fabric_account self.old did self.new) }
     {
         let Some(line) = self.lines.get(self.next) else {
             return Ok(false);
@@ -215,7 +221,7 @@ impl<'a> FabricEnd<'a> {
 
     fn take_out<R: Wait>(&mut self, rt: &R) -> Result<bool, OutOfMemory>
         requires { self.old.recorded.clock < 2 ^ 61 }
-        ensures { IfOk result (λ took. Steps fabric_does self.old.recorded took self.new.recorded) }
+        ensures { IfOk result (λ took. EndSteps fabric_does fabric_account self.old took self.new) }
     {
         let Some(sent) = self.out.take(rt) else {
             return Ok(false);
@@ -227,14 +233,14 @@ impl<'a> FabricEnd<'a> {
 
     fn announce(&mut self) -> Result<bool, OutOfMemory>
         requires { self.old.recorded.clock < 2 ^ 61 }
-        ensures { IfOk result (λ told. Steps fabric_does self.old.recorded told self.new.recorded) }
+        ensures { IfOk result (λ told. EndSteps fabric_does fabric_account self.old told self.new) }
     {
         self.recorded.announce()
     }
 
     fn run_oldest(&mut self) -> Result<bool, OutOfMemory>
         requires { self.old.recorded.clock < 2 ^ 61 }
-        ensures { IfOk result (λ ran. Steps fabric_does self.old.recorded ran self.new.recorded) }
+        ensures { IfOk result (λ ran. EndSteps fabric_does fabric_account self.old ran self.new) }
     {
         self.recorded.run_oldest()
     }
@@ -242,7 +248,7 @@ impl<'a> FabricEnd<'a> {
     // Tells once, after the last line, that there is nothing more to tell.
     fn calm(&mut self) -> Result<bool, OutOfMemory>
         requires { self.old.recorded.clock < 2 ^ 61 }
-        ensures { IfOk result (λ calmed. Steps fabric_does self.old.recorded calmed self.new.recorded) }
+        ensures { IfOk result (λ calmed. EndSteps fabric_does fabric_account self.old calmed self.new) }
     {
         if self.calmed || self.next < self.lines.len() {
             return Ok(false);
@@ -258,6 +264,17 @@ impl<'a> FabricEnd<'a> {
         ensures row { result.1.row ≡ self.entry.recorded.row }
     {
         self.recorded.into_parts()
+    }
+
+    /// The fabric, its journal, and its ends of the lanes.
+    pub fn into_parts(self) -> (Fabric, Journal, Taking<'a, Out>, Giving<'a, Back>)
+        ensures part { result.0 ≡ self.entry.recorded.part }
+        ensures row { result.1.row ≡ self.entry.recorded.row }
+        ensures out { result.2 ≡ self.entry.lanes.out }
+        ensures back { result.3 ≡ self.entry.lanes.back }
+    {
+        let (fabric, journal) = self.recorded.into_parts();
+        (fabric, journal, self.out, self.back)
     }
 }
 

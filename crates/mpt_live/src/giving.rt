@@ -1,14 +1,16 @@
 //! The end of a lane that gives.
 ghost use Rattle.std.specs.Prelude.{◌≡◌, ◌≤◌, ◌^◌, [], IfErr, OnErr, OnOk};
 ghost use Rattle.mpt_lane.specs.Lane.{IsGiverOf, sent_by};
-ghost use Rattle.mpt_live.specs.Lanes.{HasSent};
+ghost use Rattle.mpt_lane.specs.Log.{IsPrefix};
+ghost use Rattle.mpt_live.specs.Lanes.{HasSent, GivesOn, lane_id};
 
 use crate::sent::{LAST_STAMP, Sent};
+use crate::taking::Taking;
 use mpt_lane::{Giver, Lane};
 use std::marker::Model;
 use std::sync::Wait;
 
-/// The end of a lane that gives. A contract sees what was sent through it, the first first.
+/// The end of a lane that gives. A contract sees which lane it is, and what was sent through it, the first first.
 #[derive(Drop)]
 pub struct Giving<'a, T> {
     lane: &'a Lane<Sent<T>>,
@@ -19,13 +21,12 @@ pub struct Giving<'a, T> {
 
 impl<'a, T> Model for Giving<'a, T> {
     ghost use Rattle.std.specs.Prelude.{List, ◌≡◌, length};
-    ghost use Rattle.std.specs.Coded.{coded_list};
     ghost use Rattle.mpt_lane.specs.Lane.{IsGiverOf, sent_by};
-    ghost use Rattle.mpt_live.specs.declared.sent.Sent.{Sent};
+    ghost use Rattle.mpt_live.specs.Lanes.{LaneEnd, lane_id};
 
-    ghost Value = { List (Sent T) };
+    ghost Value = { LaneEnd T };
 
-    ghost view = { λ g. sent_by g.giver };
+    ghost view = { λ g. record { lane = lane_id g.lane.now; items = sent_by g.giver } };
 
     ghost invariant = { λ g. IsGiverOf g.lane.now g.giver × (g.count ≡ length (sent_by g.giver)) };
 }
@@ -35,7 +36,7 @@ impl<'a, T> Giving<'a, T> {
     pub fn new(lane: &'a Lane<Sent<T>>, giver: Giver<Sent<T>>) -> Giving<'a, T>
         requires opened { IsGiverOf lane.now giver }
         requires unused { sent_by giver ≡ [] }
-        ensures { result ≡ [] }
+        ensures { result ≡ record { lane = lane_id lane.now; items = [] } }
     {
         Giving {
             lane,
@@ -62,5 +63,19 @@ impl<'a, T> Giving<'a, T> {
             }
             Err(full) => Err(full.item.item),
         }
+    }
+    /// The giver, of which no part is lost.
+    pub fn into_giver(self) -> Giver<Sent<T>>
+        ensures giver { GivesOn self.entry.lane result }
+        ensures sent { sent_by result ≡ self.entry.items }
+    {
+        self.giver
+    }
+    /// Ends the giving and the taking of the lane: what was received begins what was sent.
+    pub fn settle(self, taking: Taking<'a, T>)
+        requires { taking.lane ≡ self.lane }
+        ensures { IsPrefix taking.entry.items self.entry.items }
+    {
+        self.lane.settle(self.giver, taking.into_taker())
     }
 }

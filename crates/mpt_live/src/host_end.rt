@@ -1,9 +1,12 @@
 //! The host's end.
 ghost use Rattle.std.specs.Prelude.{◌≡◌, ◌<◌, ◌≤◌, ◌^◌, [], true, IfOk, IsErr, OnErr, OnOk};
 ghost use Rattle.mpt_rules.specs.Session.OpenCases.{host_does};
-ghost use Rattle.mpt_live.specs.Recorded.{LeadsTo, Steps};
+ghost use Rattle.mpt_live.specs.Ends.{EndSteps, host_account};
+ghost use Rattle.mpt_live.specs.Recorded.{LeadsTo};
+ghost use Rattle.mpt_live.specs.Traffic.{KeepsLanes};
 
 use crate::giving::Giving;
+use crate::lane_ends::HostLaneEnds;
 use crate::news::News;
 use crate::pumped::Pumped;
 use crate::recorded_host::RecordedHost;
@@ -42,8 +45,8 @@ const ORDER: [HostWork; 7] = [
     HostWork::Finish,
 ];
 
-/// The host with its lanes. A contract sees its rules' record with its journal and its clock, whether it has ended, and
-/// whether memory was wanting.
+/// The host with its lanes. A contract sees its rules' record with its journal and its clock, what went through its ends of
+/// the lanes, whether it has ended, and whether memory was wanting.
 #[derive(Drop)]
 pub struct HostEnd<'a> {
     recorded: RecordedHost,
@@ -73,12 +76,13 @@ impl<'a> Model for HostEnd<'a> {
     ghost use Rattle.std.specs.FinMap as map;
     ghost use Rattle.mpt_rules.specs.Host.Parts.{Host};
     ghost use Rattle.mpt_live.specs.Ends.{End};
+    ghost use Rattle.mpt_live.specs.Traffic.{HostLanes};
 
-    ghost Value = { End Host };
+    ghost Value = { End Host HostLanes };
 
     ghost coded = { Prim.hlevel (codes, map.code) };
 
-    ghost view = { λ e. record { recorded = e.recorded; has_ended = e.ended; is_spent = e.spent } };
+    ghost view = { λ e. record { recorded = e.recorded; lanes = record { down = e.down; ups = e.ups.items; asks = e.asks.items; tells = e.tells.items }; has_ended = e.ended; is_spent = e.spent } };
 }
 
 impl<'a> HostEnd<'a> {
@@ -93,7 +97,8 @@ impl<'a> HostEnd<'a> {
         tells: Vec<Giving<'a, Tell>>,
     ) -> HostEnd<'a>
         requires { host.told ≡ [] }
-        ensures { result.recorded ≡ record { part = host.host; row = record { party = Party.Host; moments = [] }; clock = 0 } }
+        ensures recorded { result.recorded ≡ record { part = host.host; row = record { party = Party.Host; moments = [] }; clock = 0 } }
+        ensures lanes { result.lanes ≡ record { down = down.entry; ups = ups.entry.items; asks = asks.entry.items; tells = tells.entry.items } }
     {
         HostEnd {
             recorded: RecordedHost::new(alloc, host),
@@ -114,10 +119,11 @@ impl<'a> HostEnd<'a> {
         }
     }
 
-    /// Makes at most so many moves, each a case of the host, and waits for nothing. After OutOfMemory each further call
-    /// answers OutOfMemory.
+    /// Makes at most so many moves, each a case of the host, and waits for nothing. What goes through the lanes is what the
+    /// journal records. After OutOfMemory each further call answers OutOfMemory.
     pub fn pump<R: Wait>(&mut self, rt: &R, quota: u32) -> Result<Pumped, OutOfMemory>
         ensures cases { OnOk result (LeadsTo host_does self.old.recorded self.new.recorded) }
+        ensures lanes { OnOk result (KeepsLanes (host_account self.old) (host_account self.new)) }
         ensures ended { IfOk result (λ pumped. pumped.ended ≡ self.new.has_ended) }
         ensures few { IfOk result (λ pumped. pumped.moves ≤ quota) }
         ensures spent { self.old.is_spent ≡ true → IsErr result }
@@ -141,6 +147,7 @@ impl<'a> HostEnd<'a> {
     // Makes at most so many moves, and answers how many.
     fn make_moves<R: Wait>(&mut self, rt: &R, quota: u32) -> Result<u32, OutOfMemory>
         ensures cases { OnOk result (LeadsTo host_does self.old.recorded self.new.recorded) }
+        ensures lanes { OnOk result (KeepsLanes (host_account self.old) (host_account self.new)) }
         ensures few { IfOk result (λ moves. moves ≤ quota) }
     {
         for moves in 0..quota {
@@ -153,7 +160,7 @@ impl<'a> HostEnd<'a> {
 
     // Makes one move, the first in the order that can be made. False where none can.
     fn make_move<R: Wait>(&mut self, rt: &R) -> Result<bool, OutOfMemory>
-        ensures { IfOk result (λ made. Steps host_does self.old.recorded made self.new.recorded) }
+        ensures { IfOk result (λ made. EndSteps host_does host_account self.old made self.new) }
     {
         if self.ended || self.recorded.clock() >= LAST_STAMP {
             return Ok(false);
@@ -170,7 +177,7 @@ impl<'a> HostEnd<'a> {
     // Makes a move of this kind. False where there is none to make.
     fn work<R: Wait>(&mut self, rt: &R, work: HostWork) -> Result<bool, OutOfMemory>
         requires { self.old.recorded.clock < 2 ^ 61 }
-        ensures { IfOk result (λ made. Steps host_does self.old.recorded made self.new.recorded) }
+        ensures { IfOk result (λ made. EndSteps host_does host_account self.old made self.new) }
     {
         match work {
             HostWork::Start => self.start(),
@@ -185,7 +192,7 @@ impl<'a> HostEnd<'a> {
 
     fn start(&mut self) -> Result<bool, OutOfMemory>
         requires { self.old.recorded.clock < 2 ^ 61 }
-        ensures { IfOk result (λ started. Steps host_does self.old.recorded started self.new.recorded) }
+        ensures { IfOk result (λ started. EndSteps host_does host_account self.old started self.new) }
     {
         if self.started {
             return Ok(false);
@@ -198,7 +205,7 @@ impl<'a> HostEnd<'a> {
     // Does the line that was taken last.
     fn do_line(&mut self) -> Result<bool, OutOfMemory>
         requires { self.old.recorded.clock < 2 ^ 61 }
-        ensures { IfOk result (λ did. Steps host_does self.old.recorded did self.new.recorded) }
+        ensures { IfOk result (λ did. EndSteps host_does host_account self.old did self.new) }
     {
         let Some(line) = self.line.take() else {
             return Ok(false);
@@ -209,7 +216,7 @@ impl<'a> HostEnd<'a> {
 
     fn put_down<R: Wait>(&mut self, rt: &R) -> Result<bool, OutOfMemory>
         requires { self.old.recorded.clock < 2 ^ 61 }
-        ensures { IfOk result (λ put. Steps host_does self.old.recorded put self.new.recorded) }
+        ensures { IfOk result (λ put. EndSteps host_does host_account self.old put self.new) }
     {
         self.recorded.put_down(rt, &mut self.down)
     }
@@ -217,7 +224,7 @@ impl<'a> HostEnd<'a> {
     // Tells a submitter the next of what it is to be told.
     fn put_tell<R: Wait>(&mut self, rt: &R) -> Result<bool, OutOfMemory>
         requires { self.old.recorded.clock < 2 ^ 61 }
-        ensures { IfOk result (λ put. Steps host_does self.old.recorded put self.new.recorded) }
+        ensures { IfOk result (λ put. EndSteps host_does host_account self.old put self.new) }
     {
         self.news.note_all(self.recorded.recorded())?;
         let Some((submitter, tell)) = self.news.first() else {
@@ -236,7 +243,7 @@ impl<'a> HostEnd<'a> {
     // Takes an item of the first reply queue that has one.
     fn take_up<R: Wait>(&mut self, rt: &R) -> Result<bool, OutOfMemory>
         requires { self.old.recorded.clock < 2 ^ 61 }
-        ensures { IfOk result (λ took. Steps host_does self.old.recorded took self.new.recorded) }
+        ensures { IfOk result (λ took. EndSteps host_does host_account self.old took self.new) }
     {
         for queue in 0..MOST_LANES {
             if self.take_up_on(rt, queue)? {
@@ -248,7 +255,7 @@ impl<'a> HostEnd<'a> {
 
     fn take_up_on<R: Wait>(&mut self, rt: &R, queue: u8) -> Result<bool, OutOfMemory>
         requires { self.old.recorded.clock < 2 ^ 61 }
-        ensures { IfOk result (λ took. Steps host_does self.old.recorded took self.new.recorded) }
+        ensures { IfOk result (λ took. EndSteps host_does host_account self.old took self.new) }
     {
         if queue >= self.recorded.queues() {
             return Ok(false);
@@ -268,7 +275,7 @@ impl<'a> HostEnd<'a> {
     // Takes what a submitter asks, while the host is up and reads no page of a disk.
     fn take_ask<R: Wait>(&mut self, rt: &R) -> Result<bool, OutOfMemory>
         requires { self.old.recorded.clock < 2 ^ 61 }
-        ensures { IfOk result (λ took. Steps host_does self.old.recorded took self.new.recorded) }
+        ensures { IfOk result (λ took. EndSteps host_does host_account self.old took self.new) }
     {
         if !matches!(self.recorded.state(), HostState::Up) || self.recorded.reads_pages() {
             return Ok(false);
@@ -283,7 +290,7 @@ impl<'a> HostEnd<'a> {
 
     fn take_ask_of<R: Wait>(&mut self, rt: &R, submitter: u8) -> Result<bool, OutOfMemory>
         requires { self.old.recorded.clock < 2 ^ 61 }
-        ensures { IfOk result (λ took. Steps host_does self.old.recorded took self.new.recorded) }
+        ensures { IfOk result (λ took. EndSteps host_does host_account self.old took self.new) }
     {
         let Some(lane) = self.asks.get_mut(usize::from(submitter)) else {
             return Ok(false);
@@ -300,7 +307,7 @@ impl<'a> HostEnd<'a> {
     // At the end of the session: reads the Doorbell, and where nothing but its value came up since, puts the last item.
     fn look_or_stop(&mut self) -> Result<bool, OutOfMemory>
         requires { self.old.recorded.clock < 2 ^ 61 }
-        ensures { IfOk result (λ did. Steps host_does self.old.recorded did self.new.recorded) }
+        ensures { IfOk result (λ did. EndSteps host_does host_account self.old did self.new) }
     {
         if self.stopped || !self.calm || self.byes < self.asks.len() || !self.news.is_empty() {
             return Ok(false);
@@ -313,7 +320,7 @@ impl<'a> HostEnd<'a> {
 
     fn look(&mut self) -> Result<bool, OutOfMemory>
         requires { self.old.recorded.clock < 2 ^ 61 }
-        ensures { IfOk result (λ looked. Steps host_does self.old.recorded looked self.new.recorded) }
+        ensures { IfOk result (λ looked. EndSteps host_does host_account self.old looked self.new) }
     {
         self.looked = Some(self.taken);
         self.recorded.look()
@@ -321,7 +328,7 @@ impl<'a> HostEnd<'a> {
 
     fn stop(&mut self) -> Result<bool, OutOfMemory>
         requires { self.old.recorded.clock < 2 ^ 61 }
-        ensures { IfOk result (λ stopped. Steps host_does self.old.recorded stopped self.new.recorded) }
+        ensures { IfOk result (λ stopped. EndSteps host_does host_account self.old stopped self.new) }
     {
         self.stopped = !self.recorded.waits();
         self.recorded.stop()
@@ -333,6 +340,25 @@ impl<'a> HostEnd<'a> {
         ensures row { result.1.row ≡ self.entry.recorded.row }
     {
         self.recorded.into_parts()
+    }
+
+    /// The host, its journal, and its ends of the lanes.
+    pub fn into_parts(self) -> (Host, Journal, HostLaneEnds<'a>)
+        ensures part { result.0.host ≡ self.entry.recorded.part }
+        ensures row { result.1.row ≡ self.entry.recorded.row }
+        ensures down { result.2.down ≡ self.entry.lanes.down }
+        ensures ups { result.2.ups.items ≡ self.entry.lanes.ups }
+        ensures asks { result.2.asks.items ≡ self.entry.lanes.asks }
+        ensures tells { result.2.tells.items ≡ self.entry.lanes.tells }
+    {
+        let (host, journal) = self.recorded.into_parts();
+        let lanes = HostLaneEnds {
+            down: self.down,
+            ups: self.ups,
+            asks: self.asks,
+            tells: self.tells,
+        };
+        (host, journal, lanes)
     }
 }
 

@@ -1,9 +1,12 @@
 //! The controller's end.
 ghost use Rattle.std.specs.Prelude.{◌≡◌, ◌<◌, ◌≤◌, ◌^◌, [], true, IfOk, IsErr, OnErr, OnOk};
 ghost use Rattle.mpt_rules.specs.Session.OpenCases.{ioc_does};
-ghost use Rattle.mpt_live.specs.Recorded.{LeadsTo, Steps};
+ghost use Rattle.mpt_live.specs.Ends.{EndSteps, ioc_account};
+ghost use Rattle.mpt_live.specs.Recorded.{LeadsTo};
+ghost use Rattle.mpt_live.specs.Traffic.{KeepsLanes};
 
 use crate::giving::Giving;
+use crate::lane_ends::IocLaneEnds;
 use crate::pumped::Pumped;
 use crate::recorded_ioc::RecordedIoc;
 use crate::sent::LAST_STAMP;
@@ -37,8 +40,8 @@ const ORDER: [IocWork; 6] = [
     IocWork::TakeDown,
 ];
 
-/// The controller with its lanes. A contract sees its rules' record with its journal and its clock, whether it has
-/// ended, and whether memory was wanting.
+/// The controller with its lanes. A contract sees its rules' record with its journal and its clock, what went through its
+/// ends of the lanes, whether it has ended, and whether memory was wanting.
 #[derive(Drop)]
 pub struct IocEnd<'a> {
     recorded: RecordedIoc,
@@ -57,12 +60,13 @@ impl<'a> Model for IocEnd<'a> {
     ghost use Rattle.std.specs.FinSet as set;
     ghost use Rattle.mpt_rules.specs.Ioc.Parts.{Ioc};
     ghost use Rattle.mpt_live.specs.Ends.{End};
+    ghost use Rattle.mpt_live.specs.Traffic.{IocLanes};
 
-    ghost Value = { End Ioc };
+    ghost Value = { End Ioc IocLanes };
 
     ghost coded = { Prim.hlevel (codes, set.code) };
 
-    ghost view = { λ e. record { recorded = e.recorded; has_ended = e.ended; is_spent = e.spent } };
+    ghost view = { λ e. record { recorded = e.recorded; lanes = record { down = e.down; ups = e.ups.items; out = e.out; back = e.back }; has_ended = e.ended; is_spent = e.spent } };
 }
 
 impl<'a> IocEnd<'a> {
@@ -76,7 +80,8 @@ impl<'a> IocEnd<'a> {
         back: Taking<'a, Back>,
     ) -> IocEnd<'a>
         requires { ioc.told ≡ [] }
-        ensures { result.recorded ≡ record { part = ioc.part; row = record { party = Party.Ioc; moments = [] }; clock = 0 } }
+        ensures recorded { result.recorded ≡ record { part = ioc.part; row = record { party = Party.Ioc; moments = [] }; clock = 0 } }
+        ensures lanes { result.lanes ≡ record { down = down.entry; ups = ups.entry.items; out = out.entry; back = back.entry } }
     {
         IocEnd {
             recorded: RecordedIoc::new(alloc, ioc),
@@ -90,10 +95,11 @@ impl<'a> IocEnd<'a> {
         }
     }
 
-    /// Makes at most so many moves, each a case of the controller, and waits for nothing. After OutOfMemory each further
-    /// call answers OutOfMemory.
+    /// Makes at most so many moves, each a case of the controller, and waits for nothing. What goes through the lanes is
+    /// what the journal records. After OutOfMemory each further call answers OutOfMemory.
     pub fn pump<R: Wait>(&mut self, rt: &R, quota: u32) -> Result<Pumped, OutOfMemory>
         ensures cases { OnOk result (LeadsTo ioc_does self.old.recorded self.new.recorded) }
+        ensures lanes { OnOk result (KeepsLanes (ioc_account self.old) (ioc_account self.new)) }
         ensures ended { IfOk result (λ pumped. pumped.ended ≡ self.new.has_ended) }
         ensures few { IfOk result (λ pumped. pumped.moves ≤ quota) }
         ensures spent { self.old.is_spent ≡ true → IsErr result }
@@ -117,6 +123,7 @@ impl<'a> IocEnd<'a> {
     // Makes at most so many moves, and answers how many.
     fn make_moves<R: Wait>(&mut self, rt: &R, quota: u32) -> Result<u32, OutOfMemory>
         ensures cases { OnOk result (LeadsTo ioc_does self.old.recorded self.new.recorded) }
+        ensures lanes { OnOk result (KeepsLanes (ioc_account self.old) (ioc_account self.new)) }
         ensures few { IfOk result (λ moves. moves ≤ quota) }
     {
         for moves in 0..quota {
@@ -129,7 +136,7 @@ impl<'a> IocEnd<'a> {
 
     // Makes one move, the first in the order that can be made. False where none can.
     fn make_move<R: Wait>(&mut self, rt: &R) -> Result<bool, OutOfMemory>
-        ensures { IfOk result (λ made. Steps ioc_does self.old.recorded made self.new.recorded) }
+        ensures { IfOk result (λ made. EndSteps ioc_does ioc_account self.old made self.new) }
     {
         if self.ended || self.recorded.clock() >= LAST_STAMP {
             return Ok(false);
@@ -146,7 +153,7 @@ impl<'a> IocEnd<'a> {
     // Makes a move of this kind. False where there is none to make.
     fn work<R: Wait>(&mut self, rt: &R, work: IocWork) -> Result<bool, OutOfMemory>
         requires { self.old.recorded.clock < 2 ^ 61 }
-        ensures { IfOk result (λ made. Steps ioc_does self.old.recorded made self.new.recorded) }
+        ensures { IfOk result (λ made. EndSteps ioc_does ioc_account self.old made self.new) }
     {
         match work {
             IocWork::PutOut => self.put_out(rt),
@@ -160,7 +167,7 @@ impl<'a> IocEnd<'a> {
 
     fn put_out<R: Wait>(&mut self, rt: &R) -> Result<bool, OutOfMemory>
         requires { self.old.recorded.clock < 2 ^ 61 }
-        ensures { IfOk result (λ put. Steps ioc_does self.old.recorded put self.new.recorded) }
+        ensures { IfOk result (λ put. EndSteps ioc_does ioc_account self.old put self.new) }
     {
         self.recorded.put_out(rt, &mut self.out)
     }
@@ -168,7 +175,7 @@ impl<'a> IocEnd<'a> {
     // Puts the next item of the first reply queue that has one and whose lane isn't full.
     fn put_up<R: Wait>(&mut self, rt: &R) -> Result<bool, OutOfMemory>
         requires { self.old.recorded.clock < 2 ^ 61 }
-        ensures { IfOk result (λ put. Steps ioc_does self.old.recorded put self.new.recorded) }
+        ensures { IfOk result (λ put. EndSteps ioc_does ioc_account self.old put self.new) }
     {
         for queue in 0..MAX_QUEUES {
             if self.put_up_on(rt, queue)? {
@@ -180,7 +187,7 @@ impl<'a> IocEnd<'a> {
 
     fn put_up_on<R: Wait>(&mut self, rt: &R, queue: u8) -> Result<bool, OutOfMemory>
         requires { self.old.recorded.clock < 2 ^ 61 }
-        ensures { IfOk result (λ put. Steps ioc_does self.old.recorded put self.new.recorded) }
+        ensures { IfOk result (λ put. EndSteps ioc_does ioc_account self.old put self.new) }
     {
         match self.ups.get_mut(usize::from(queue)) {
             Some(lane) => self.recorded.put_up(rt, queue, lane),
@@ -190,21 +197,21 @@ impl<'a> IocEnd<'a> {
 
     fn work_high(&mut self) -> Result<bool, OutOfMemory>
         requires { self.old.recorded.clock < 2 ^ 61 }
-        ensures { IfOk result (λ worked. Steps ioc_does self.old.recorded worked self.new.recorded) }
+        ensures { IfOk result (λ worked. EndSteps ioc_does ioc_account self.old worked self.new) }
     {
         self.recorded.work_high()
     }
 
     fn work_normal(&mut self) -> Result<bool, OutOfMemory>
         requires { self.old.recorded.clock < 2 ^ 61 }
-        ensures { IfOk result (λ worked. Steps ioc_does self.old.recorded worked self.new.recorded) }
+        ensures { IfOk result (λ worked. EndSteps ioc_does ioc_account self.old worked self.new) }
     {
         self.recorded.work_normal()
     }
 
     fn take_back<R: Wait>(&mut self, rt: &R) -> Result<bool, OutOfMemory>
         requires { self.old.recorded.clock < 2 ^ 61 }
-        ensures { IfOk result (λ took. Steps ioc_does self.old.recorded took self.new.recorded) }
+        ensures { IfOk result (λ took. EndSteps ioc_does ioc_account self.old took self.new) }
     {
         let Some(sent) = self.back.take(rt) else {
             return Ok(false);
@@ -215,7 +222,7 @@ impl<'a> IocEnd<'a> {
 
     fn take_down<R: Wait>(&mut self, rt: &R) -> Result<bool, OutOfMemory>
         requires { self.old.recorded.clock < 2 ^ 61 }
-        ensures { IfOk result (λ took. Steps ioc_does self.old.recorded took self.new.recorded) }
+        ensures { IfOk result (λ took. EndSteps ioc_does ioc_account self.old took self.new) }
     {
         let Some(sent) = self.down.take(rt) else {
             return Ok(false);
@@ -231,6 +238,25 @@ impl<'a> IocEnd<'a> {
         ensures row { result.1.row ≡ self.entry.recorded.row }
     {
         self.recorded.into_parts()
+    }
+
+    /// The controller, its journal, and its ends of the lanes.
+    pub fn into_parts(self) -> (Ioc, Journal, IocLaneEnds<'a>)
+        ensures part { result.0.part ≡ self.entry.recorded.part }
+        ensures row { result.1.row ≡ self.entry.recorded.row }
+        ensures down { result.2.down ≡ self.entry.lanes.down }
+        ensures ups { result.2.ups.items ≡ self.entry.lanes.ups }
+        ensures out { result.2.out ≡ self.entry.lanes.out }
+        ensures back { result.2.back ≡ self.entry.lanes.back }
+    {
+        let (ioc, journal) = self.recorded.into_parts();
+        let lanes = IocLaneEnds {
+            down: self.down,
+            ups: self.ups,
+            out: self.out,
+            back: self.back,
+        };
+        (ioc, journal, lanes)
     }
 }
 

@@ -1,7 +1,10 @@
 //! The work of each party: its end is pumped until it has ended, or memory is wanting anywhere.
 ghost use Rattle.std.specs.Prelude.{◌≡◌, false, IfOk};
 ghost use Rattle.mpt_rules.specs.Session.OpenCases.{fabric_does, host_does, ioc_does};
+ghost use Rattle.mpt_live.specs.Ends.{fabric_account, host_account, ioc_account};
 ghost use Rattle.mpt_live.specs.Recorded.{LeadsTo, submitter_enters};
+ghost use Rattle.mpt_live.specs.Submitters.{submitter_account};
+ghost use Rattle.mpt_live.specs.Traffic.{KeepsLanes};
 
 use crate::fabric_end::FabricEnd;
 use crate::gate::Gate;
@@ -23,7 +26,8 @@ pub fn run_host<'a, R: Wait, G: Gate>(
     gate: &G,
     mut end: HostEnd<'a>,
 ) -> Result<HostEnd<'a>, OutOfMemory>
-    ensures { IfOk result (λ ended. LeadsTo host_does end.entry.recorded ended.recorded) }
+    ensures cases { IfOk result (λ ended. LeadsTo host_does end.entry.recorded ended.recorded) }
+    ensures lanes { IfOk result (λ ended. KeepsLanes (host_account end.entry) (host_account ended)) }
 {
     gate.enter(Party::Host);
     for _ in rt.forever() {
@@ -47,7 +51,8 @@ pub fn run_ioc<'a, R: Wait, G: Gate>(
     gate: &G,
     mut end: IocEnd<'a>,
 ) -> Result<IocEnd<'a>, OutOfMemory>
-    ensures { IfOk result (λ ended. LeadsTo ioc_does end.entry.recorded ended.recorded) }
+    ensures cases { IfOk result (λ ended. LeadsTo ioc_does end.entry.recorded ended.recorded) }
+    ensures lanes { IfOk result (λ ended. KeepsLanes (ioc_account end.entry) (ioc_account ended)) }
 {
     gate.enter(Party::Ioc);
     for _ in rt.forever() {
@@ -71,7 +76,8 @@ pub fn run_fabric<'a, R: Wait, G: Gate>(
     gate: &G,
     mut end: FabricEnd<'a>,
 ) -> Result<FabricEnd<'a>, OutOfMemory>
-    ensures { IfOk result (λ ended. LeadsTo fabric_does end.entry.recorded ended.recorded) }
+    ensures cases { IfOk result (λ ended. LeadsTo fabric_does end.entry.recorded ended.recorded) }
+    ensures lanes { IfOk result (λ ended. KeepsLanes (fabric_account end.entry) (fabric_account ended)) }
 {
     gate.enter(Party::Fabric);
     for _ in rt.forever() {
@@ -97,6 +103,7 @@ pub fn run_submitter<R: Wait, G: Gate>(
     end: &mut SubmitterEnd<'_>,
 )
     ensures cases { end.new.is_spent ≡ false → LeadsTo (submitter_enters end.old.number) end.old.recorded end.new.recorded }
+    ensures lanes { end.new.is_spent ≡ false → KeepsLanes (submitter_account end.old) (submitter_account end.new) }
     ensures number { end.new.number ≡ end.old.number }
 {
     let party = Party::Submitter(end.number());

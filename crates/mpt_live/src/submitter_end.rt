@@ -1,6 +1,8 @@
 //! A submitter's end.
 ghost use Rattle.std.specs.Prelude.{◌≡◌, ◌<◌, ◌≤◌, ◌^◌, [], true, IfOk, IsErr, OnErr, OnOk};
-ghost use Rattle.mpt_live.specs.Recorded.{LeadsTo, Steps, submitter_enters};
+ghost use Rattle.mpt_live.specs.Recorded.{LeadsTo, submitter_enters};
+ghost use Rattle.mpt_live.specs.Submitters.{SubmitterSteps, submitter_account};
+ghost use Rattle.mpt_live.specs.Traffic.{KeepsLanes};
 
 use crate::giving::Giving;
 use crate::pumped::Pumped;
@@ -16,8 +18,8 @@ use std::sync::Wait;
 // So many submissions of a submitter are open at most.
 const MOST_OPEN: u32 = 32;
 
-/// A submitter with its lanes and its lines. A contract sees its number, its journal and its clock, whether it has
-/// ended, and whether memory was wanting.
+/// A submitter with its lanes and its lines. A contract sees its number, its journal and its clock, what went through its
+/// ends of the lanes, whether it has ended, and whether memory was wanting.
 #[derive(Drop)]
 pub struct SubmitterEnd<'a> {
     alloc: Global,
@@ -40,7 +42,7 @@ impl<'a> Model for SubmitterEnd<'a> {
 
     ghost Value = { NumberedEnd };
 
-    ghost view = { λ e. record { number = e.recorded.number; recorded = e.recorded.recorded; has_ended = e.ended; is_spent = e.spent } };
+    ghost view = { λ e. record { number = e.recorded.number; recorded = e.recorded.recorded; lanes = record { ask = e.ask; tell = e.tell }; has_ended = e.ended; is_spent = e.spent } };
 }
 
 impl<'a> SubmitterEnd<'a> {
@@ -54,6 +56,7 @@ impl<'a> SubmitterEnd<'a> {
     ) -> SubmitterEnd<'a>
         ensures number { result.number ≡ number }
         ensures recorded { result.recorded ≡ record { part = tt; row = record { party = Party.Submitter number; moments = [] }; clock = 0 } }
+        ensures lanes { result.lanes ≡ record { ask = ask.entry; tell = tell.entry } }
     {
         SubmitterEnd {
             alloc,
@@ -69,10 +72,11 @@ impl<'a> SubmitterEnd<'a> {
         }
     }
 
-    /// Makes at most so many moves, each a case of the submitter, and waits for nothing. After OutOfMemory each further
-    /// call answers OutOfMemory.
+    /// Makes at most so many moves, each a case of the submitter, and waits for nothing. What goes through the lanes is what
+    /// the journal records. After OutOfMemory each further call answers OutOfMemory.
     pub fn pump<R: Wait>(&mut self, rt: &R, quota: u32) -> Result<Pumped, OutOfMemory>
         ensures cases { OnOk result (LeadsTo (submitter_enters self.old.number) self.old.recorded self.new.recorded) }
+        ensures lanes { OnOk result (KeepsLanes (submitter_account self.old) (submitter_account self.new)) }
         ensures number { self.new.number ≡ self.old.number }
         ensures ended { IfOk result (λ pumped. pumped.ended ≡ self.new.has_ended) }
         ensures few { IfOk result (λ pumped. pumped.moves ≤ quota) }
@@ -97,6 +101,7 @@ impl<'a> SubmitterEnd<'a> {
     // Makes at most so many moves, and answers how many.
     fn make_moves<R: Wait>(&mut self, rt: &R, quota: u32) -> Result<u32, OutOfMemory>
         ensures cases { OnOk result (LeadsTo (submitter_enters self.old.number) self.old.recorded self.new.recorded) }
+        ensures lanes { OnOk result (KeepsLanes (submitter_account self.old) (submitter_account self.new)) }
         ensures number { self.new.number ≡ self.old.number }
         ensures few { IfOk result (λ moves. moves ≤ quota) }
     {
@@ -110,7 +115,7 @@ impl<'a> SubmitterEnd<'a> {
 
     // Makes one move: it takes before it asks. False where there is none to make.
     fn make_move<R: Wait>(&mut self, rt: &R) -> Result<bool, OutOfMemory>
-        ensures made { IfOk result (λ made. Steps (submitter_enters self.old.number) self.old.recorded made self.new.recorded) }
+        ensures made { IfOk result (λ made. SubmitterSteps self.old made self.new) }
         ensures number { self.new.number ≡ self.old.number }
     {
         if self.ended || self.recorded.clock() >= LAST_STAMP {
@@ -129,7 +134,7 @@ impl<'a> SubmitterEnd<'a> {
     // Takes what the host tells of a submission, which is then no longer open.
     fn take_tell<R: Wait>(&mut self, rt: &R) -> Result<bool, OutOfMemory>
         requires { self.old.recorded.clock < 2 ^ 61 }
-        ensures took { IfOk result (λ took. Steps (submitter_enters self.old.number) self.old.recorded took self.new.recorded) }
+        ensures took { IfOk result (λ took. SubmitterSteps self.old took self.new) }
         ensures number { self.new.number ≡ self.old.number }
     {
         let Some(sent) = self.tell.take(rt) else {
@@ -143,7 +148,7 @@ impl<'a> SubmitterEnd<'a> {
     // Asks the next line, or the last word. False where there is none to ask now, or the lane is full.
     fn put_ask<R: Wait>(&mut self, rt: &R) -> Result<bool, OutOfMemory>
         requires { self.old.recorded.clock < 2 ^ 61 }
-        ensures put { IfOk result (λ put. Steps (submitter_enters self.old.number) self.old.recorded put self.new.recorded) }
+        ensures put { IfOk result (λ put. SubmitterSteps self.old put self.new) }
         ensures number { self.new.number ≡ self.old.number }
     {
         let Some(ask) = self.next_ask()? else {
@@ -193,6 +198,15 @@ impl<'a> SubmitterEnd<'a> {
         ensures { result.row ≡ self.entry.recorded.row }
     {
         self.recorded.into_journal()
+    }
+
+    /// The journal and the ends of the lanes.
+    pub fn into_parts(self) -> (Journal, Giving<'a, Ask>, Taking<'a, Tell>)
+        ensures row { result.0.row ≡ self.entry.recorded.row }
+        ensures ask { result.1 ≡ self.entry.lanes.ask }
+        ensures tell { result.2 ≡ self.entry.lanes.tell }
+    {
+        (self.recorded.into_journal(), self.ask, self.tell)
     }
 }
 

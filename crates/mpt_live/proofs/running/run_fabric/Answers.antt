@@ -1,12 +1,16 @@
 use Rattle.mpt_rules.specs.Session.OpenCases.{fabric_does}
-use Rattle.mpt_live.proofs.Leads.{leads_far, leads_nowhere}
+use Rattle.mpt_live.proofs.FabricKeeps.{fabric_books}
+use Rattle.mpt_live.proofs.Led.{led_far, led_nowhere}
 use Rattle.mpt_live.proofs.running.run_fabric.Goals as goal
 
 pub loop-init : goal.loop-init
-loop-init g c = leads_nowhere fabric_does c.args.end.recorded
+loop-init g c = led_nowhere fabric_does fabric_books c.args.end
 
 pub loop-preserved : goal.loop-preserved
-loop-preserved g c = leads_far fabric_does c.args.end.recorded c.loop.end.recorded c.pump.new.self.recorded c.loop.invariant c.in-Ok.ensures.cases
+loop-preserved g c = led_far fabric_does fabric_books c.args.end c.loop.end c.pump.new.self c.loop.invariant c.in-Ok.ensures.cases c.in-Ok.ensures.lanes
 
-pub returns-then-pumped : goal.returns-then-pumped
-returns-then-pumped g c = leads_far fabric_does c.args.end.recorded c.loop.end.recorded c.pump.new.self.recorded c.loop.invariant c.in-Ok.ensures.cases
+pub returns-then-pumped-clause-cases : goal.returns-then-pumped-clause-cases
+returns-then-pumped-clause-cases g c = (led_far fabric_does fabric_books c.args.end c.loop.end c.pump.new.self c.loop.invariant c.in-Ok.ensures.cases c.in-Ok.ensures.lanes).cases
+
+pub returns-then-pumped-clause-lanes : goal.returns-then-pumped-clause-lanes
+returns-then-pumped-clause-lanes g c = (led_far fabric_does fabric_books c.args.end c.loop.end c.pump.new.self c.loop.invariant c.in-Ok.ensures.cases c.in-Ok.ensures.lanes).lanes

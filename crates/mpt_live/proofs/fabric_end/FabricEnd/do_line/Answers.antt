@@ -1,9 +1,8 @@
-use Rattle.std.proofs.Common.{ap}
-use Rattle.mpt_rules.specs.Fabric.Parts.{Fabric}
+use Rattle.std.proofs.Common.{refl, true}
 use Rattle.mpt_rules.specs.Session.OpenCases.{FabricCase, fabric_does}
-use Rattle.mpt_live.specs.Ends.{End}
-use Rattle.mpt_live.proofs.Leads.{leads_next}
+use Rattle.mpt_live.proofs.FabricKeeps.{fabric_books, makes_case}
+use Rattle.mpt_live.proofs.Led.{moved_from}
 use Rattle.mpt_live.proofs.fabric_end.FabricEnd.do_line.Goals as goal
 
 pub returns : goal.returns
-returns c = leads_next fabric_does (FabricCase.Told c.in_ok-line.line) c.self.inside.recorded c.args.self.now.recorded c.input.new.self (ap (λ (e : End Fabric). e.recorded) c.self.view_is) c.in_ok-input.ensures
+returns c = moved_from fabric_does fabric_books _ c.args.self.now _ _ true c.self.view_is (makes_case _ _ _ _ (FabricCase.Told c.in_ok-line.line) true tt c.in_ok-input.ensures refl)

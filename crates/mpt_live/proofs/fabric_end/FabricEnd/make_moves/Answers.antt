@@ -1,8 +1,11 @@
 use Rattle.mpt_rules.specs.Session.OpenCases.{fabric_does}
-use Rattle.mpt_live.proofs.Leads.{leads_far, steps_lead}
+use Rattle.mpt_live.proofs.FabricKeeps.{fabric_books}
+use Rattle.mpt_live.proofs.Led.{led_by_name, led_on}
 use Rattle.mpt_live.proofs.fabric_end.FabricEnd.make_moves.Goals as goal
+
+pub loop-moves-init : goal.loop-moves-init
+loop-moves-init g c = led_by_name fabric_does fabric_books _ c.args.self.now c.self.view_is
 
 pub loop-moves-preserved : goal.loop-moves-preserved
 loop-moves-preserved g c =
-    leads_far fabric_does c.args.self.now.recorded c.loop-moves.self.recorded c.make_move.new.self.recorded c.loop-moves.invariant
-    (steps_lead fabric_does c.loop-moves.self.recorded c.make_move.new.self.recorded c.in_ok-make_move.field-0 c.in_ok-make_move.ensures)
+    led_on fabric_does fabric_books c.args.self.now c.loop-moves.self c.make_move.new.self c.in_ok-make_move.field-0 c.loop-moves.invariant c.in_ok-make_move.ensures

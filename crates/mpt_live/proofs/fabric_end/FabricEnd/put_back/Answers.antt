@@ -1,9 +1,8 @@
-use Rattle.std.proofs.Common.{ap}
-use Rattle.mpt_rules.specs.Fabric.Parts.{Fabric}
-use Rattle.mpt_rules.specs.Session.OpenCases.{FabricCase, fabric_does}
-use Rattle.mpt_live.specs.Ends.{End}
-use Rattle.mpt_live.proofs.Leads.{if_made}
+use Rattle.std.proofs.Common.{refl}
+use Rattle.mpt_rules.specs.Session.OpenCases.{fabric_does}
+use Rattle.mpt_live.proofs.FabricKeeps.{fabric_books, if_puts}
+use Rattle.mpt_live.proofs.Led.{if_moved}
 use Rattle.mpt_live.proofs.fabric_end.FabricEnd.put_back.Goals as goal
 
 pub returns : goal.returns
-returns g c = if_made fabric_does c.put_back.result FabricCase.Puts c.self.inside.recorded c.args.self.now.recorded _ (ap (λ (e : End Fabric). e.recorded) c.self.view_is) c.put_back.ensures.made
+returns g c = if_moved fabric_does fabric_books c.put_back.result _ c.args.self.now _ c.self.view_is (if_puts _ _ _ _ c.put_back.result c.put_back.ensures.made c.put_back.ensures.given refl)

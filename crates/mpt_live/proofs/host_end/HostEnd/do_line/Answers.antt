@@ -1,9 +1,8 @@
-use Rattle.std.proofs.Common.{ap}
-use Rattle.mpt_rules.specs.Host.Parts.{Host}
+use Rattle.std.proofs.Common.{refl, true}
 use Rattle.mpt_rules.specs.Session.OpenCases.{HostCase, host_does}
-use Rattle.mpt_live.specs.Ends.{End}
-use Rattle.mpt_live.proofs.Leads.{leads_next}
+use Rattle.mpt_live.proofs.HostKeeps.{host_books, makes_case}
+use Rattle.mpt_live.proofs.Led.{moved_from}
 use Rattle.mpt_live.proofs.host_end.HostEnd.do_line.Goals as goal
 
 pub returns : goal.returns
-returns c = leads_next host_does (HostCase.Told c.in-Some.line) c.self.inside.recorded c.args.self.now.recorded c.input.new.self (ap (λ (e : End Host). e.recorded) c.self.view_is) c.in_ok-input.ensures
+returns c = moved_from host_does host_books _ c.args.self.now _ _ true c.self.view_is (makes_case _ _ _ _ (HostCase.Told c.in-Some.line) true tt c.in_ok-input.ensures refl)

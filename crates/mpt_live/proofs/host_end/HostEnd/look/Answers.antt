@@ -1,9 +1,8 @@
-use Rattle.std.proofs.Common.{ap}
-use Rattle.mpt_rules.specs.Host.Parts.{Host}
+use Rattle.std.proofs.Common.{refl}
 use Rattle.mpt_rules.specs.Session.OpenCases.{HostCase, host_does}
-use Rattle.mpt_live.specs.Ends.{End}
-use Rattle.mpt_live.proofs.Leads.{if_made}
+use Rattle.mpt_live.proofs.HostKeeps.{host_books, if_makes}
+use Rattle.mpt_live.proofs.Led.{if_moved}
 use Rattle.mpt_live.proofs.host_end.HostEnd.look.Goals as goal
 
 pub returns : goal.returns
-returns c = if_made host_does c.look.result HostCase.Looks c.self.inside.recorded c.args.self.now.recorded _ (ap (λ (e : End Host). e.recorded) c.self.view_is) c.look.ensures
+returns c = if_moved host_does host_books c.look.result _ c.args.self.now _ c.self.view_is (if_makes _ _ _ _ c.look.result HostCase.Looks tt c.look.ensures refl)

@@ -2,4 +2,4 @@ use Rattle.std.proofs.Common.{◌≡◌}
 use Rattle.mpt_live.proofs.host_end.HostEnd.make_move.Given as goal
 
 abbrev pub invariant-loop-work : goal.invariant-loop-work
-invariant-loop-work g l = l.self.recorded ≡ l.fn.self.recorded
+invariant-loop-work g l = record { recorded : l.self.recorded ≡ l.fn.self.recorded; lanes : l.self.lanes ≡ l.fn.self.lanes }

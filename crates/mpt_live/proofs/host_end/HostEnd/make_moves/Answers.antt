@@ -1,8 +1,11 @@
 use Rattle.mpt_rules.specs.Session.OpenCases.{host_does}
-use Rattle.mpt_live.proofs.Leads.{leads_far, steps_lead}
+use Rattle.mpt_live.proofs.HostKeeps.{host_books}
+use Rattle.mpt_live.proofs.Led.{led_nowhere, led_on}
 use Rattle.mpt_live.proofs.host_end.HostEnd.make_moves.Goals as goal
+
+pub loop-moves-init : goal.loop-moves-init
+loop-moves-init g c = led_nowhere host_does host_books c.args.self.now
 
 pub loop-moves-preserved : goal.loop-moves-preserved
 loop-moves-preserved g c =
-    leads_far host_does c.args.self.now.recorded c.loop-moves.self.recorded c.make_move.new.self.recorded c.loop-moves.invariant
-    (steps_lead host_does c.loop-moves.self.recorded c.make_move.new.self.recorded c.in_ok-make_move.field-0 c.in_ok-make_move.ensures)
+    led_on host_does host_books c.args.self.now c.loop-moves.self c.make_move.new.self c.in_ok-make_move.field-0 c.loop-moves.invariant c.in_ok-make_move.ensures

@@ -1,9 +1,13 @@
-use Rattle.std.proofs.Common.{ap}
-use Rattle.mpt_rules.specs.Host.Parts.{Host}
-use Rattle.mpt_rules.specs.Session.OpenCases.{HostCase, host_does}
-use Rattle.mpt_live.specs.Ends.{End}
-use Rattle.mpt_live.proofs.Leads.{leads_taken}
+use Rattle.std.proofs.Common.{refl, true}
+use Rattle.mpt_rules.specs.Session.OpenCases.{host_does}
+use Rattle.mpt_live.proofs.HostKeeps.{host_books, takes_item_up}
+use Rattle.mpt_live.proofs.Led.{moved_from}
+use Rattle.mpt_live.proofs.Several.{at_place}
 use Rattle.mpt_live.proofs.host_end.HostEnd.take_up_on.Goals as goal
 
 pub returns : goal.returns
-returns g c = leads_taken host_does (HostCase.Takes c.args.queue c.in-Some-take.sent.item) c.in-Some-take.sent.stamp c.self.inside.recorded c.args.self.now.recorded c.take_up.new.self (ap (λ (e : End Host). e.recorded) c.self.view_is) c.in_ok-take_up.ensures
+returns g c =
+    moved_from host_does host_books _ c.args.self.now _ _ true c.self.view_is
+    (takes_item_up _ _ _ _ c.from.result c.args.queue c.from.ensures c.in-Some.lane.now c.take.new.self
+    (at_place c.self.inside.ups.items c.from.result c.args.queue c.in-Some.lane.now c.from.ensures c.in-Some.ensures.item.3.0 c.in-Some.ensures.value) c.in-Some-take.sent c.in_ok-take_up.ensures
+    c.in-Some-take.ensures.got refl)

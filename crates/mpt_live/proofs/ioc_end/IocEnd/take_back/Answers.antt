@@ -1,9 +1,12 @@
-use Rattle.std.proofs.Common.{ap}
-use Rattle.mpt_rules.specs.Ioc.Parts.{Ioc}
-use Rattle.mpt_rules.specs.Session.OpenCases.{TakesBack, ioc_does}
-use Rattle.mpt_live.specs.Ends.{End}
-use Rattle.mpt_live.proofs.Leads.{leads_taken}
+use Rattle.std.proofs.Common.{ap, true}
+use Rattle.mpt_rules.specs.Session.OpenCases.{ioc_does}
+use Rattle.mpt_live.specs.Lanes.{LaneEnd}
+use Rattle.mpt_live.proofs.IocKeeps.{ioc_books, takes_from_fabric}
+use Rattle.mpt_live.proofs.Led.{moved_from}
 use Rattle.mpt_live.proofs.ioc_end.IocEnd.take_back.Goals as goal
 
 pub returns : goal.returns
-returns g c = leads_taken ioc_does (TakesBack c.in-Some.sent.item) c.in-Some.sent.stamp c.self.inside.recorded c.args.self.now.recorded c.take_back.new.self (ap (λ (e : End Ioc). e.recorded) c.self.view_is) c.in_ok-take_back.ensures
+returns g c =
+    moved_from ioc_does ioc_books _ c.args.self.now _ _ true c.self.view_is
+    (takes_from_fabric _ _ _ _ c.in-Some.sent c.in_ok-take_back.ensures
+    (ap (λ (back : LaneEnd _). record { down = c.self.inside.down; ups = c.self.inside.ups.items; out = c.self.inside.out; back = back }) c.in-Some.ensures.got))

@@ -1,9 +1,12 @@
-use Rattle.std.proofs.Common.{ap}
-use Rattle.mpt_rules.specs.Ioc.Parts.{Ioc}
-use Rattle.mpt_rules.specs.Session.OpenCases.{TakesDown, ioc_does}
-use Rattle.mpt_live.specs.Ends.{End}
-use Rattle.mpt_live.proofs.Leads.{leads_taken}
+use Rattle.std.proofs.Common.{ap, true}
+use Rattle.mpt_rules.specs.Session.OpenCases.{ioc_does}
+use Rattle.mpt_live.specs.Lanes.{LaneEnd}
+use Rattle.mpt_live.proofs.IocKeeps.{ioc_books, takes_from_host}
+use Rattle.mpt_live.proofs.Led.{moved_from}
 use Rattle.mpt_live.proofs.ioc_end.IocEnd.take_down.Goals as goal
 
 pub returns : goal.returns
-returns g c = leads_taken ioc_does (TakesDown c.in-Some.sent.item) c.in-Some.sent.stamp c.self.inside.recorded c.args.self.now.recorded c.take_down.new.self (ap (λ (e : End Ioc). e.recorded) c.self.view_is) c.in_ok-take_down.ensures
+returns g c =
+    moved_from ioc_does ioc_books _ c.args.self.now _ _ true c.self.view_is
+    (takes_from_host _ _ _ _ c.in-Some.sent c.in_ok-take_down.ensures
+    (ap (λ (down : LaneEnd _). record { down = down; ups = c.self.inside.ups.items; out = c.self.inside.out; back = c.self.inside.back }) c.in-Some.ensures.got))

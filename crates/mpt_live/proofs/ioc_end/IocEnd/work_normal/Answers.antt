@@ -1,9 +1,8 @@
-use Rattle.std.proofs.Common.{ap}
-use Rattle.mpt_rules.specs.Ioc.Parts.{Ioc}
+use Rattle.std.proofs.Common.{refl}
 use Rattle.mpt_rules.specs.Session.OpenCases.{WorksNormal, ioc_does}
-use Rattle.mpt_live.specs.Ends.{End}
-use Rattle.mpt_live.proofs.Leads.{if_made}
+use Rattle.mpt_live.proofs.IocKeeps.{if_works, ioc_books}
+use Rattle.mpt_live.proofs.Led.{if_moved}
 use Rattle.mpt_live.proofs.ioc_end.IocEnd.work_normal.Goals as goal
 
 pub returns : goal.returns
-returns c = if_made ioc_does c.work_normal.result WorksNormal c.self.inside.recorded c.args.self.now.recorded c.work_normal.new.self (ap (λ (e : End Ioc). e.recorded) c.self.view_is) c.work_normal.ensures
+returns c = if_moved ioc_does ioc_books c.work_normal.result _ c.args.self.now _ c.self.view_is (if_works _ _ _ _ c.work_normal.result WorksNormal tt c.work_normal.ensures refl)
