@@ -1,12 +1,15 @@
 -- The lanes of a session, closed, beside the journals of its parties.
-use Rattle.std.specs.Prelude.{◌≡◌, ◌+◌, ℕ, List, [], ◌∷◌, ◌++◌, All, count_by, map}
+use Rattle.std.specs.Prelude.{◌≡◌, ◌+◌, ℕ, true, false, List, [], ◌∷◌, ◌++◌, All, count_by, map}
 use Rattle.mpt_trace.specs.declared.item.Ask.{Ask}
 use Rattle.mpt_trace.specs.declared.item.Tell.{Tell}
 use Rattle.mpt_trace.specs.declared.parties.Party.{Party}
 use Rattle.mpt_wire.specs.Queues.Lanes.{LanesInOrder}
-use Rattle.mpt_rules.specs.Law.{AnsweredAtMostOnce}
+use Rattle.mpt_rules.specs.Fabric.Calls.{fabric_quiet}
+use Rattle.mpt_rules.specs.Host.Takes.{host_waits}
+use Rattle.mpt_rules.specs.Ioc.Takes.{ioc_quiet}
+use Rattle.mpt_rules.specs.Law.{AllAreAnswered, AnsweredAtMostOnce}
 use Rattle.mpt_rules.specs.Session.Parts.{TakesAreLater}
-use Rattle.mpt_rules.specs.Session.Sessions.{Session}
+use Rattle.mpt_rules.specs.Session.Sessions.{EndsQuiet, Session}
 use Rattle.mpt_rules.specs.World.Cases.{Case}
 use Rattle.mpt_rules.specs.World.Settings.{Setting}
 use Rattle.law_sessions.specs.OfCases.{IsSessionOf}
@@ -14,7 +17,7 @@ use Rattle.mpt_live.specs.Lanes.{LaneEnd}
 use Rattle.mpt_live.specs.Recorded.{Recorded}
 use Rattle.mpt_live.specs.Traffic.{FabricLanes, HostLanes, IocLanes, RecordsLanes, SubmitterLanes, fabric_traffic, host_traffic, ioc_traffic, submitter_traffic}
 use Rattle.mpt_live.specs.declared.sent.Sent.{Sent}
-use Rattle.live_lanes.specs.Taken.{AllIsTaken, is_any_put, is_any_take}
+use Rattle.live_lanes.specs.Taken.{is_any_put, is_any_take}
 use Rattle.live_journals.specs.Parties.{LeavesParties, PartiesLed, RecordedParties, entries_of_parties}
 
 -- the parties' ends of the lanes, and what went through them; the submitters by their number from 0
@@ -77,15 +80,25 @@ pub record JournalsRecordLanes (p : RecordedParties) (l : SessionLanes) : Type 0
 abbrev pub ClosedLanesAreLater : Type 0
 ClosedLanesAreLater = (s : Setting) (p : RecordedParties) (x : Session) (l : SessionLanes) → LeavesParties s p x → JournalsRecordLanes p l → LanesAreClosed l → TakesAreLater s x
 
+-- no party has anything left to do, the host waits for nothing, and as many items were taken from lanes as were put on them
+pub record PartiesAreQuiet (p : RecordedParties) : Type 0 where
+  pub host : p.host.part.out ≡ []
+  pub waits : host_waits p.host.part ≡ false
+  pub ioc : ioc_quiet p.ioc.part ≡ true
+  pub fabric : fabric_quiet p.fabric.part ≡ true
+  pub counts : count_by is_any_put (entries_of_parties p) ≡ count_by is_any_take (entries_of_parties p)
+
 -- the session that the parties have made: its lanes are queues, so some cases do what it does, and no number is accepted or
--- answered twice; where as much was taken as was put, all that was put on each lane was taken
+-- answered twice; where the parties are quiet it ended quiet, so that all that was put on each lane was taken, and each
+-- accepted number was answered
 pub record IsOrderly (s : Setting) (p : RecordedParties) (x : Session) : Type 0 where
   pub leaves : LeavesParties s p x
   pub later : TakesAreLater s x
   pub queues : LanesInOrder (entries_of_parties p)
   pub cases : (cs : List Case) × IsSessionOf s x cs
   pub once : AnsweredAtMostOnce s (entries_of_parties p)
-  pub taken : count_by is_any_put (entries_of_parties p) ≡ count_by is_any_take (entries_of_parties p) → AllIsTaken (entries_of_parties p)
+  pub quiet : PartiesAreQuiet p → EndsQuiet s x
+  pub answered : PartiesAreQuiet p → AllAreAnswered (entries_of_parties p)
 
 abbrev pub ClosedSessionsAreOrderly : Type 0
 ClosedSessionsAreOrderly = (s : Setting) (p : RecordedParties) (l : SessionLanes) → PartiesLed s p → JournalsRecordLanes p l → LanesAreClosed l → (x : Session) × IsOrderly s p x

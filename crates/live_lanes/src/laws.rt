@@ -18,8 +18,8 @@ pub fn closed_lanes_are_later()
 
 /// Where some cases led each party from what it was at first, the journals record what went through the lanes, and the
 /// lanes are closed, the parties have made a session whose lanes are queues: some list of cases does what it does, and no
-/// number is accepted or answered twice in it; where as many items were taken as were put, all that was put on each lane
-/// was taken.
+/// number is accepted or answered twice in it; where the parties are quiet, it ended quiet, and each accepted number was
+/// answered.
 pub fn closed_sessions_are_orderly()
     ensures { ClosedSessionsAreOrderly }
 {
