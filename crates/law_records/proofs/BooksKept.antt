@@ -1,5 +1,5 @@
 -- Each call of the host keeps that its tables agree.
-use Rattle.std.proofs.Common.{◌≡◌, ℕ, ◌-◌, List, [], ◌∷◌, set, refl, sym, subst, ◌∙◌}
+use Rattle.std.proofs.Common.{true, ◌≡◌, ℕ, ◌-◌, List, [], ◌∷◌, set, refl, sym, subst, ◌∙◌}
 use Rattle.std.specs.FinMap as finmap
 use Rattle.std.specs.List.{fold, range_with_len}
 use Rattle.smid_pool.specs.Pool.{Free, Open, Parked, Slot, slot_of}
@@ -120,7 +120,7 @@ frees_only s (request.Command n) h e p z = absurd p
 frees_only s (request.Abort n task) h e p z = absurd p
 frees_only s (request.TargetReset address) h e p z = absurd p
 
-pub move_kept : (h h2 : Host) → (x : Move h h2) → IsStrict h h2 x → Agree h → Agree h2
+pub move_kept : (h h2 : Host) → (x : Move h h2) → IsStrict true h h2 x → Agree h → Agree h2
 move_kept h h2 (Puts x a e) t z = to _ h2 e z
 move_kept h h2 (PutsWrites ws a e) t z = to _ h2 e z
 move_kept h h2 (PutsRead d reg e) t z = to _ h2 e z

@@ -229,10 +229,10 @@ module _ (w : World) (h : History) (f : Facts w h) (plain : NothingIsStrange w) 
   owed =
       record {
         host_puts = λ x rest e. sent x rest;
-        host_takes = λ queue x rest e y. along Agree move_kept w.host _ (item_is_strict w.host queue x (fits w h f)) here;
-        host_told = λ i g. along Agree move_kept w.host _ (input_is_strict w.host i) here;
-        host_looks = λ e. along Agree move_kept w.host _ (look_is_strict w.host) here;
-        host_stops = λ e. along Agree move_kept w.host _ (stop_is_strict w.host) here;
+        host_takes = λ queue x rest e y. along Agree true move_kept w.host _ (item_is_strict w.host queue x (fits w h f)) here;
+        host_told = λ i g. along Agree true move_kept w.host _ (input_is_strict w.host i) here;
+        host_looks = λ e. along Agree true move_kept w.host _ (look_is_strict w.host) here;
+        host_stops = λ e. along Agree true move_kept w.host _ (stop_is_strict w.host) here;
         ioc_takes = λ x rest e. here;
         ioc_high = λ p rest e. here;
         ioc_normal = λ p rest e. here;

@@ -1,0 +1,4 @@
+mod Frames
+mod Away
+mod Returned
+pub mod Whole
