@@ -51,6 +51,7 @@ module _ (w : World) (h : History) where
     pub fit : fits (command_named form) ≡ true
     pub host : x ≡ inputs.with_accepted w.host n a (command_named form) handle s
     pub told : k ≡ history_after h (entry.Given (input.Submit n a form) ∷ entry.Accept n a s ∷ [])
+    pub follows : Follows w h (record w { host = x }) k 0
 
   pub data Leads (x : Host) (k : History) : Type 0 where
     Goes : (hand : ℕ) → Away hand → Follow x k hand → Leads x k

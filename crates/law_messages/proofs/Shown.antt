@@ -13,6 +13,7 @@ use Rattle.law_messages.specs.Numbers.{AbortsAreAccepted}
 use Rattle.law_messages.specs.Commands.{CommandsKnown}
 use Rattle.law_messages.specs.Posts.{PostsStand}
 use Rattle.law_messages.proofs.AcceptedKept as accepted
+use Rattle.law_messages.proofs.Leads.{Leads}
 use Rattle.law_messages.proofs.NamedKept.{named_kept, unknown_kept}
 use Rattle.law_messages.proofs.PostsKept as posts
 
@@ -22,6 +23,10 @@ module _ (w : World) (h : History) (c : Case) (f : Facts w h) (plain : NothingIs
 
   behind : Behind (happens w c)
   behind = record { whole = whole_kept w h f plain c; stage = stage_kept w h before c; started = started_kept w h before c }
+
+  -- where the case leads the host's records
+  pub leads : AbortsAreAccepted w → Leads w h (happens w c).host (history_after h (entries w c))
+  leads a = posts.leads w h before a c behind
 
   pub posts_kept : AbortsAreAccepted w → PostsStand (happens w c) (history_after h (entries w c))
   posts_kept a = posts.posts_kept w h before a c behind

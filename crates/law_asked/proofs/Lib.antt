@@ -1,0 +1,6 @@
+pub mod Firm
+pub mod Lists
+pub mod AtFabric
+pub mod Opened
+pub mod FabricKept
+pub mod Shown
