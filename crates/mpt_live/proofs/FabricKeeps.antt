@@ -1,7 +1,6 @@
 -- The cases of the fabric keep its journal and its lanes together.
 use Rattle.std.proofs.Common.{◌≡◌, ◌∙◌, ℕ, Bool, true, false, List, [], ◌∷◌, ◌++◌, arith, refl, subst, sym, ap}
 use Rattle.std.specs.Prelude.{Err, IfOk, None, Ok, Option, Result, Some, slice_get}
-use Rattle.mpt_trace.specs.declared.entry.Entry.{Entry}
 use Rattle.mpt_trace.specs.declared.entry.Entry.TheVariants as entry
 use Rattle.mpt_trace.specs.declared.input.Input.{Input}
 use Rattle.mpt_trace.specs.declared.input.Input.TheVariants as input
@@ -13,15 +12,15 @@ use Rattle.mpt_trace.specs.declared.lane.LaneName.TheVariants as lane
 use Rattle.mpt_trace.specs.declared.refusal.Refusal.{Refusal}
 use Rattle.mpt_trace.specs.declared.refusal.RefusedCall.{RefusedCall}
 use Rattle.mpt_trace.specs.declared.refusal.RefusedCall.TheVariants as call
-use Rattle.mpt_rules.specs.Fabric.Calls.{PlugRefusal, announces, fabric_plugs, fabric_unplugs, oldest, runs}
+use Rattle.mpt_rules.specs.Fabric.Calls.{PlugRefusal, announces, fabric_plugs, fabric_unplugs, runs}
 use Rattle.mpt_rules.specs.Fabric.Parts.{Fabric}
 use Rattle.mpt_rules.specs.Outcome.{Called}
 use Rattle.mpt_rules.specs.Session.OpenCases.{FabricCase, fabric_does, puts_back, ran, says_or_not}
 use Rattle.mpt_rules.specs.World.Inputs.{by_plug, fabric_told, refused_plug_entered, told_cause}
 use Rattle.mpt_live.specs.Ends.{End, EndSteps, fabric_account}
-use Rattle.mpt_live.specs.Lanes.{HasSent, LaneEnd, WasGiven, with_item}
+use Rattle.mpt_live.specs.Lanes.{HasSent, WasGiven, with_item}
 use Rattle.mpt_live.specs.Recorded.{Made, MadeOf, Recorded, after_case, next_stamp, stamp_after, stamped_with}
-use Rattle.mpt_live.specs.Traffic.{Account, FabricLanes, KeepsLanes, Traffic, fabric_lanes, fabric_received, fabric_sent, fabric_traffic}
+use Rattle.mpt_live.specs.Traffic.{Account, FabricLanes, KeepsLanes, fabric_lanes, fabric_received, fabric_sent, fabric_traffic}
 use Rattle.mpt_live.specs.declared.sent.Sent.{Sent}
 use Rattle.mpt_live.proofs.Kept.{AreOffLanes, Receives, Sends, items_with, keeps_off, keeps_put, keeps_take, one_on}
 use Rattle.mpt_live.proofs.Leads.{leads_by, steps_made}

@@ -21,7 +21,6 @@ use Rattle.mpt_trace.specs.declared.item.Up.{Up}
 use Rattle.mpt_trace.specs.declared.lane.LaneName.{LaneName}
 use Rattle.mpt_trace.specs.declared.lane.LaneName.TheVariants as lane
 use Rattle.mpt_trace.specs.declared.refusal.Refusal.{Refusal}
-use Rattle.mpt_trace.specs.declared.refusal.Refusal.TheVariants as refusal
 use Rattle.mpt_trace.specs.declared.refusal.RefusedCall.TheVariants as call
 use Rattle.mpt_wire.specs.Messages.Fields.{target_reset}
 use Rattle.mpt_wire.specs.Walks.Passes.{EachEntry}
@@ -33,7 +32,7 @@ use Rattle.mpt_rules.specs.Host.Posts.{posts_task}
 use Rattle.mpt_rules.specs.Host.Strange.{why_strange}
 use Rattle.mpt_rules.specs.Host.Takes.{hears_up, takes_unless, takes_up}
 use Rattle.mpt_rules.specs.Outcome.{Called}
-use Rattle.mpt_rules.specs.Session.Journals.{At, at_if}
+use Rattle.mpt_rules.specs.Session.Journals.{at_if}
 use Rattle.mpt_rules.specs.Session.OpenCases.{HostCase, host_does, puts_down}
 use Rattle.mpt_rules.specs.World.Inputs.{by_option, by_result, cause_of, host_told, refused_or}
 use Rattle.mpt_rules.specs.World.Moves.{told_of}
@@ -42,7 +41,7 @@ use Rattle.law_moves.proofs.HostWords.{EndsIt, HostTells, IsHostWord, Words, hos
 use Rattle.mpt_live.specs.Ends.{End, EndSteps, host_account}
 use Rattle.mpt_live.specs.Lanes.{HasSent, LaneEnd, WasGiven, with_item}
 use Rattle.mpt_live.specs.Recorded.{Made, Recorded, after_case, next_stamp, stamp_after, stamped_with}
-use Rattle.mpt_live.specs.Traffic.{Account, HostLanes, KeepsLanes, Traffic, host_lanes, host_received, host_sent, host_traffic, lanes_of}
+use Rattle.mpt_live.specs.Traffic.{Account, HostLanes, KeepsLanes, host_lanes, host_received, host_sent, host_traffic, lanes_of}
 use Rattle.mpt_live.specs.declared.sent.Sent.{Sent}
 use Rattle.mpt_live.proofs.Kept.{AreOffLanes, IsOffLanes, Receives, Sends, items_with, keeps_off, keeps_put, keeps_take, one_on}
 use Rattle.mpt_live.proofs.Leads.{leads_by, steps_made}

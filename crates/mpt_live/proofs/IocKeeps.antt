@@ -30,7 +30,7 @@ use Rattle.law_moves.proofs.IocWords.{IsIocWord, back_words, works_words}
 use Rattle.mpt_live.specs.Ends.{End, EndSteps, ioc_account}
 use Rattle.mpt_live.specs.Lanes.{HasSent, LaneEnd, WasGiven, with_item}
 use Rattle.mpt_live.specs.Recorded.{Made, Recorded, after_case, next_stamp, stamp_after, stamped_with}
-use Rattle.mpt_live.specs.Traffic.{Account, IocLanes, KeepsLanes, Traffic, ioc_lanes, ioc_received, ioc_sent, ioc_traffic, items_of}
+use Rattle.mpt_live.specs.Traffic.{Account, IocLanes, KeepsLanes, ioc_lanes, ioc_received, ioc_sent, ioc_traffic}
 use Rattle.mpt_live.specs.declared.sent.Sent.{Sent}
 use Rattle.mpt_live.proofs.Kept.{AreOffLanes, IsOffLanes, Receives, Sends, items_with, keeps_off, keeps_put, keeps_take, one_on}
 use Rattle.mpt_live.proofs.Leads.{leads_by, steps_made}

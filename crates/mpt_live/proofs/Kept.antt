@@ -9,7 +9,7 @@ use Rattle.mpt_trace.specs.declared.entry.Entry.TheVariants as entry
 use Rattle.mpt_trace.specs.declared.item.Item.{Item}
 use Rattle.mpt_trace.specs.declared.lane.LaneName.{LaneName}
 use Rattle.mpt_wire.specs.Queues.Lanes.{same_lane}
-use Rattle.mpt_rules.specs.Session.Journals.{At, Row, at_if, put_in, taken_in}
+use Rattle.mpt_rules.specs.Session.Journals.{At, at_if, put_in, taken_in}
 use Rattle.mpt_live.specs.Lanes.{LaneEnd, with_item}
 use Rattle.mpt_live.specs.Recorded.{stamped_with}
 use Rattle.mpt_live.specs.Traffic.{Account, AreTaken, KeepsLanes, RecordsLanes, Traffic, items_as, puts_on, takes_on}

@@ -1,6 +1,6 @@
 -- An end, move by move.
-use Rattle.std.proofs.Common.{◌≡◌, Bool, true, false, ap, refl, subst, sym}
-use Rattle.std.specs.Prelude.{Err, IfOk, None, Ok, OnOk, Option, Result, Some}
+use Rattle.std.proofs.Common.{◌≡◌, Bool, true, false, refl, subst, sym}
+use Rattle.std.specs.Prelude.{Err, IfOk, Ok, Result}
 use Rattle.mpt_rules.specs.Outcome.{Happening}
 use Rattle.mpt_live.specs.Ends.{End, EndSteps}
 use Rattle.mpt_live.specs.Recorded.{LeadsTo, Recorded}

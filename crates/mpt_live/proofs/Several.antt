@@ -1,12 +1,12 @@
 -- Several lanes of one kind, of which one has one more item.
-use Rattle.std.proofs.Common.{◌≡◌, ◌≢◌, ◌∙◌, ◌<◌, ◌==◌, ℕ, Bool, true, false, List, [], ◌∷◌, ◌++◌, ap, append-nil, arith, get_or, length, map, refl, set, subst, sym}
+use Rattle.std.proofs.Common.{◌≡◌, ◌≢◌, ◌∙◌, ◌<◌, ◌==◌, ℕ, Bool, true, false, List, [], ◌∷◌, ◌++◌, ap, append-nil, arith, get_or, length, map, set, subst, sym}
 use Rattle.std.specs.List.{cons_option}
 use Rattle.std.proofs.lemmas.Bool.Decides.{nat_tests}
 use Rattle.std.proofs.lemmas.List.{get_or-map, get_or-set_other, get_or-set_same, length-map, map-set}
 use Rattle.std.proofs.Math.Seq.{map-set_same}
 use Rattle.mpt_trace.specs.declared.item.Item.{Item}
 use Rattle.mpt_rules.specs.Session.Journals.{At, at_if}
-use Rattle.mpt_live.specs.Lanes.{LaneEnd, LaneId, with_item}
+use Rattle.mpt_live.specs.Lanes.{LaneEnd, with_item}
 use Rattle.mpt_live.specs.Traffic.{items_as, items_of, lanes_of}
 use Rattle.mpt_live.specs.declared.sent.Sent.{Sent}
 use Rattle.mpt_live.proofs.Kept.{items_with}

@@ -1,22 +1,19 @@
 -- The cases of a submitter, whose number stays.
-use Rattle.std.proofs.Common.{◌≡◌, ◌∙◌, ℕ, Bool, true, false, List, [], ◌∷◌, ◌++◌, arith, if◌then◌else◌, refl, subst, sym, ap}
-use Rattle.std.specs.Prelude.{Err, IfOk, None, Ok, OnOk, Result, Some}
+use Rattle.std.proofs.Common.{◌≡◌, ◌∙◌, ℕ, Bool, true, false, [], ◌++◌, arith, if◌then◌else◌, refl, subst, sym, ap}
+use Rattle.std.specs.Prelude.{Some}
 use Rattle.std.specs.List.{cons_option}
-use Rattle.mpt_trace.specs.declared.entry.Entry.{Entry}
-use Rattle.mpt_trace.specs.declared.entry.Entry.TheVariants as entry
 use Rattle.mpt_trace.specs.declared.item.Ask.{Ask}
 use Rattle.mpt_trace.specs.declared.item.Tell.{Tell}
 use Rattle.mpt_trace.specs.declared.item.Item.{Item}
 use Rattle.mpt_trace.specs.declared.item.Item.TheVariants as item
-use Rattle.mpt_trace.specs.declared.lane.LaneName.{LaneName}
 use Rattle.mpt_trace.specs.declared.lane.LaneName.TheVariants as lane
 use Rattle.mpt_wire.specs.Queues.Lanes.{same_lane}
-use Rattle.mpt_rules.specs.Session.Journals.{At, at_if}
+use Rattle.mpt_rules.specs.Session.Journals.{at_if}
 use Rattle.mpt_rules.specs.Session.OpenCases.{PutsAsk, TakesTell}
 use Rattle.mpt_live.specs.Lanes.{HasSent, LaneEnd, WasGiven, with_item}
 use Rattle.mpt_live.specs.Recorded.{LeadsTo, Made, Recorded, after_case, next_stamp, stamp_after, submitter_enters}
 use Rattle.mpt_live.specs.Submitters.{NumberedEnd, SubmitterSteps, submitter_account}
-use Rattle.mpt_live.specs.Traffic.{Account, KeepsLanes, SubmitterLanes, Traffic, items_as, submitter_lanes, submitter_traffic}
+use Rattle.mpt_live.specs.Traffic.{Account, KeepsLanes, SubmitterLanes, items_as, submitter_lanes, submitter_traffic}
 use Rattle.mpt_live.specs.declared.sent.Sent.{Sent}
 use Rattle.mpt_live.proofs.Farther.{goes_farther}
 use Rattle.mpt_live.proofs.Kept.{Receives, Sends, items_with, keeps_on, keeps_put, keeps_still, keeps_take}

@@ -1,4 +1,4 @@
-use Rattle.std.proofs.Common.{◌≡◌, ◌∙◌, ap, refl}
+use Rattle.std.proofs.Common.{◌∙◌, ap, refl}
 use Rattle.mpt_live.specs.Lanes.{LaneEnd, lane_id, with_item}
 use Rattle.mpt_live.specs.declared.sent.Sent.{Sent}
 use Rattle.mpt_live.proofs.giving.Giving.give.Goals as goal

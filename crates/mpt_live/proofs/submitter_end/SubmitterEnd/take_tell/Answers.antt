@@ -1,6 +1,5 @@
 use Rattle.std.proofs.Common.{ap}
 use Rattle.mpt_live.specs.Lanes.{LaneEnd}
-use Rattle.mpt_live.specs.Submitters.{NumberedEnd}
 use Rattle.mpt_live.proofs.Submitters.{takes_tell_from}
 use Rattle.mpt_live.proofs.submitter_end.SubmitterEnd.take_tell.Goals as goal
 
