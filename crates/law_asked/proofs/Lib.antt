@@ -3,4 +3,6 @@ pub mod Lists
 pub mod AtFabric
 pub mod Opened
 pub mod FabricKept
+pub mod IocHeld
+pub mod HeldKept
 pub mod Shown

@@ -4,10 +4,15 @@ use Rattle.mpt_rules.specs.World.Cases.{Case, entries, happens}
 use Rattle.mpt_rules.specs.World.State.{World}
 use Rattle.law_facts.specs.Facts.{Facts}
 use Rattle.law_facts.specs.History.{History, history_after}
+use Rattle.law_doors.proofs.Whole.{whole_kept}
 use Rattle.law_messages.specs.Numbers.{AbortsAreAccepted}
 use Rattle.law_messages.proofs.Shown.{leads}
-use Rattle.law_asked.specs.Asked.{TasksStand}
+use Rattle.law_asked.specs.Asked.{ResetsWait, TasksStand}
 use Rattle.law_asked.proofs.FabricKept.{fabric_kept}
+use Rattle.law_asked.proofs.HeldKept.{held_kept}
 
 pub tasks_are_kept : (w : World) (h : History) (c : Case) → Facts w h → NothingIsStrange w → AbortsAreAccepted w → TasksStand (happens w c) (history_after h (entries w c))
 tasks_are_kept w h c f plain a = let s = fabric_kept w h f plain c (leads w h c f plain a) in record { tasks = s.0; back = s.1 }
+
+pub held_resets_are_kept : (w : World) (h : History) (c : Case) → Facts w h → NothingIsStrange w → AbortsAreAccepted w → ResetsWait (happens w c)
+held_resets_are_kept w h c f plain a = held_kept w h f plain c (whole_kept w h f plain c) (leads w h c f plain a)

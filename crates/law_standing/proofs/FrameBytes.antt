@@ -46,7 +46,7 @@ rows [] vs = none_bytes
 rows (r ∷ rs) [] = none_bytes
 rows (r ∷ rs) (v ∷ vs) = append_bytes (little_bytes r.width v) (rows_bytes rs vs) (little r.width v) (rows rs vs)
 
-layout : (l : Shape) (vs : List ℕ) (n : ℕ) → IsBytes (layout_bytes l vs ++ replicate n 0)
+pub layout : (l : Shape) (vs : List ℕ) (n : ℕ) → IsBytes (layout_bytes l vs ++ replicate n 0)
 layout l vs n = append_bytes (layout_bytes l vs) (replicate n 0) (rows l.rows vs) (zero_bytes n)
 
 -- ---- fields of bytes
@@ -54,7 +54,7 @@ layout l vs n = append_bytes (layout_bytes l vs) (replicate n 0) (rows l.rows vs
 dropped : (xs : List ℕ) (at k : ℕ) → slice_index (drop at xs) k ≡ slice_index xs (at + k)
 dropped xs at k = get_or-drop at xs k 0
 
-field_lt : (xs : List ℕ) (at n : ℕ) → IsBytes xs → field xs at n < 256 ^ n
+pub field_lt : (xs : List ℕ) (at n : ℕ) → IsBytes xs → field xs at n < 256 ^ n
 field_lt xs at n b = subst (λ z. z < 256 ^ n) (field_reads xs at n) (little_from-lt 0 n (drop at xs) (λ k. subst (λ z. z < 256) (sym (dropped xs at k)) (b (at + k))))
 
 bytes_fit : (frame : List ℕ) → IsBytes frame → FieldsFit frame

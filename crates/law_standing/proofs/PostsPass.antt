@@ -95,7 +95,7 @@ module _ (w : World) (h : History) (f : Facts w h) where
       same_smid c e = cc
 
   -- what an abort names is an identifier of a command
-  named : (s n task : ℕ) → slot w.host s ≡ Open (request.Abort n task) → (1 ≤ task) × (task ≤ 256)
+  pub named : (s n task : ℕ) → slot w.host s ≡ Open (request.Abort n task) → (1 ≤ task) × (task ≤ 256)
   named s n task e = let i = inside w h f s (request.Abort n task) e in by_cmd (finmap.get w.host.cmds n) refl (subst (AbortNames w) e (f.flights.identifiers s i.0 i.1).names)
     where
       by_cmd : (o : Option Cmd) → finmap.get w.host.cmds n ≡ o → NamesOpen w task o → (1 ≤ task) × (task ≤ 256)
