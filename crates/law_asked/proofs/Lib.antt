@@ -5,4 +5,5 @@ pub mod Opened
 pub mod FabricKept
 pub mod IocHeld
 pub mod HeldKept
+pub mod ReadBack
 pub mod Shown

@@ -1,4 +1,10 @@
 //! The laws.
+ghost use Rattle.std.specs.Prelude.{◌≡◌, ℕ, ◌^◌, ◌<◌, ◌≤◌, true};
+ghost use Rattle.hex.specs.Hex.{IsBytes};
+ghost use Rattle.scsi_disk.specs.Command.{fits};
+ghost use Rattle.scsi_disk.specs.declared.command.Command.{Command};
+ghost use Rattle.mpt_rules.specs.Host.Posts.{command_asked, frame_asked};
+ghost use Rattle.mpt_rules.specs.Ioc.Commands.{command_in};
 ghost use Rattle.mpt_rules.specs.World.Cases.{Case, entries, happens};
 ghost use Rattle.mpt_rules.specs.Law.{NothingIsStrange};
 ghost use Rattle.mpt_rules.specs.World.State.{World};
@@ -17,4 +23,9 @@ pub fn tasks_are_kept()
 /// has left the fabric, is one that was asked, or that of its handle's removal.
 pub fn held_resets_are_kept()
     ensures { (w : World) (h : History) (c : Case) → Facts w h → NothingIsStrange w → AbortsAreAccepted w → ResetsWait (happens w c) }
+{}
+
+/// What the controller reads of the frame of a command that fits, of bytes and of unit 0, is that command.
+pub fn commands_are_read_as_written()
+    ensures { (c : Command) (s handle : ℕ) → fits c ≡ true → IsBytes c.cdb → c.lun ≡ 0 → 1 ≤ s → s ≤ 256 → handle < 2 ^ 16 → command_in (frame_asked (command_asked s handle c)) c.payload ≡ c }
 {}
