@@ -1,12 +1,12 @@
 -- What the head of a schedule declares is within the limits, so that it isn't refused.
-use Rattle.std.proofs.Common.{◌≡◌, ◌≢◌, ℕ, suc, ◌≤◌, ◌&&◌, ◌==◌, nat_le, nat_lt, not, Bool, true, false, if◌then◌else◌, List, [], ◌∷◌, length, map, Option, Some, None, refl, subst, arith}
+use Rattle.std.proofs.Common.{◌≡◌, ◌≢◌, ℕ, suc, ◌&&◌, ◌==◌, nat_le, nat_lt, true, false, List, [], ◌∷◌, length, map, None, refl, subst, arith}
 use Rattle.std.specs.Prelude.{All, AllPairs}
 use Rattle.std.specs.List.{list_all, list_any}
 use Rattle.std.proofs.lemmas.Grind.{common_steps}
 use Rattle.std.proofs.lemmas.List.{length-map}
 use Rattle.mpt_trace.specs.declared.disk_spec.DiskSpec.{DiskSpec}
 use Rattle.mpt_rules.specs.World.Settings.{IsFromTo, IsSetting, Setting}
-use Rattle.sas_fabric.specs.Making.{is_disk_of, is_phy_count, is_same_address, making_refusal, zero_disk}
+use Rattle.sas_fabric.specs.Making.{is_disk_of, is_phy_count, is_same_address, zero_disk}
 use Rattle.mpt_system.specs.Making.{has_fit_blocks, system_refusal}
 use Rattle.std.proofs.lemmas.List.Elements.{All-head, All-tail}
 use Rattle.mpt_system.specs.Making.{IsCause}

@@ -1,5 +1,5 @@
 -- Lines that are carried out one after the other.
-use Rattle.std.proofs.Common.{◌≡◌, ℕ, zero, suc, ◌+◌, ◌-◌, ◌<◌, List, [], ◌∷◌, ◌++◌, replicate, Option, Some, None, Result, Ok, Err, refl, sym, ap, ◌∙◌, subst, append-nil, arith, add-one}
+use Rattle.std.proofs.Common.{◌≡◌, ℕ, zero, suc, ◌+◌, ◌-◌, ◌<◌, List, [], ◌∷◌, ◌++◌, replicate, Option, Some, None, Result, Ok, Err, refl, sym, ap, ◌∙◌, subst, append-nil, arith}
 use Rattle.std.specs.Prelude.{IsErr, OnErr, OnOk}
 use Rattle.std.specs.List.{cons_option}
 use Rattle.std.proofs.lemmas.List.{replicate-append-replicate, replicate_more}
@@ -11,12 +11,12 @@ use Rattle.mpt_rules.specs.Outcome.{Happening}
 use Rattle.mpt_rules.specs.World.Cases.{Chosen, Told, case_of}
 use Rattle.mpt_rules.specs.World.Drain.{behind, drain_rounds, drains}
 use Rattle.mpt_rules.specs.World.Replays.{carries_out, replays, steps}
-use Rattle.mpt_rules.specs.World.State.{World, nothing, queues_of}
+use Rattle.mpt_rules.specs.World.State.{World, queues_of}
 use Rattle.mpt_rules.specs.World.TurnsDone.{does_turns}
 use Rattle.mpt_rules.specs.World.Weight.{weight}
 use Rattle.law_replays.proofs.Turns.{drain_turned}
-use Rattle.mpt_system.proofs.Turns.{after_behind, after_nothing, halted_turn, none_turned, one_turn, so_far_behind, so_far_more, stays_so_far, turn_halted, turn_more}
-use Rattle.mpt_system.specs.Turns.{DrainedSoFar, HasTurned, TurnedSoFar}
+use Rattle.mpt_system.proofs.Turns.{after_behind, after_nothing, halted_turn, none_turned, one_turn, so_far_behind, so_far_more, stays_so_far, turn_more}
+use Rattle.mpt_system.specs.Turns.{DrainedSoFar, TurnedSoFar}
 use Rattle.mpt_system.specs.Whole.{Halted, Stays, Whole, after}
 use Rattle.law_replays.specs.Schedules.{carried_in}
 use Rattle.mpt_script.specs.declared.line.Line.{Line as ScriptLine}

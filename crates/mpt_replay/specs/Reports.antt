@@ -1,22 +1,13 @@
 -- The reports of a schedule.
 use Rattle.std.specs.Prelude.{ℕ, List}
 use Rattle.mpt_script.specs.declared.line.Line.{Line as ScriptLine}
-use Rattle.mpt_trace.specs.declared.disk_spec.DiskSpec.{DiskSpec}
-use Rattle.mpt_trace.specs.declared.summary.Summary.{Summary}
-use Rattle.mpt_wire.specs.Machine.Reports.{last_machine}
 use Rattle.mpt_rules.specs.Outcome.{Happening}
-use Rattle.mpt_rules.specs.World.Drain.{world_quiet}
 use Rattle.mpt_rules.specs.World.Replays.{replays}
 use Rattle.mpt_rules.specs.World.Settings.{first_world}
 use Rattle.mpt_rules.specs.World.State.{World}
-use Rattle.mpt_rules.specs.World.Summaries.{replay_report, replay_short, summary_of, summary_with}
-use Rattle.mpt_system.specs.Whole.{Whole}
+use Rattle.mpt_rules.specs.World.Summaries.{replay_report, replay_short, summary_of}
 use Rattle.law_replays.specs.Schedules.{lines_of, setting_of}
 use Rattle.mpt_replay.specs.Seen.{ReplaySeen}
-
--- the summary of all that was told to a whole of these disks
-abbrev pub system_summary : List DiskSpec → Whole → Summary
-system_summary disks whole = summary_with (last_machine disks whole.entries) whole.world.host.phases (world_quiet whole.world) whole.entries
 
 -- what a schedule's lines leave, from the first world of what its head declares
 abbrev pub schedule_outcome : List ScriptLine → Happening World

@@ -13,5 +13,5 @@ pub use mpt_script::{Line, Schedule};
 pub use mpt_system::System;
 pub use mpt_text::{OutOfMemory, Text};
 pub use mpt_trace::Summary;
-pub use replayed::{Replayed, system_summary};
+pub use replayed::Replayed;
 pub use reporting::{report_text, schedule_report, schedule_short_report, short_report_text};

@@ -1,16 +1,14 @@
 //! A schedule that was carried out.
-ghost use Rattle.std.specs.Prelude.{◌≡◌, ◌≤◌, [], All, IfOk, length};
-ghost use Rattle.disk_machine.specs.Machine.{IsDiskSize};
-ghost use Rattle.mpt_replay.specs.Reports.{replay_of, system_summary};
+ghost use Rattle.std.specs.Prelude.{◌≡◌, IfOk};
+ghost use Rattle.mpt_replay.specs.Reports.{replay_of};
 
 use crate::carrying::carry_out;
 use crate::head::Head;
-use disk_machine::{summaries_agree, summary_of_trace};
-use law_replays::schedules_keep_limits;
+use law_replays::{replays_are_of_cases, schedules_keep_limits};
 use mpt_script::Schedule;
-use mpt_system::System;
+use mpt_system::{System, disks_stay};
 use mpt_text::OutOfMemory;
-use mpt_trace::{DiskSpec, Entry, Summary};
+use mpt_trace::{Entry, Summary};
 use std::alloc::Global;
 use std::marker::Model;
 
@@ -44,7 +42,10 @@ impl Replayed {
         let head = Head::of(alloc, lines)?;
         let mut system = head.system(alloc)?;
         carry_out(alloc, &mut system, lines)?;
-        let summary = system_summary(alloc, head.disks(), &system)?;
+        // Its disks are those of the head, whatever was carried out.
+        replays_are_of_cases();
+        disks_stay();
+        let summary = system.summary(alloc)?;
         Ok(Replayed { system, summary })
     }
 
@@ -61,25 +62,4 @@ impl Replayed {
     {
         &self.summary
     }
-}
-
-/// The summary of a system's trace, in which nothing is missing, with these disks; or OutOfMemory.
-pub fn system_summary(
-    alloc: Global,
-    disks: &[DiskSpec],
-    system: &System,
-) -> Result<Summary, OutOfMemory>
-    requires written { system.now.pending ≡ [] }
-    requires few { length disks.now ≤ 64 }
-    requires sizes { All IsDiskSize disks.now }
-    ensures { IfOk result (λ summary. summary ≡ system_summary disks.now system.now) }
-{
-    // What the parts say is what the rules say of their phases.
-    summaries_agree();
-    summary_of_trace(
-        alloc,
-        disks,
-        system.trace().as_slice(),
-        system.parts_summary(),
-    )
 }

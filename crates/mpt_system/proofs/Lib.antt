@@ -8,3 +8,5 @@ pub mod Asked
 pub mod Turns
 pub mod RoundsMade
 pub mod Phases
+pub mod Disks
+pub mod Summaries

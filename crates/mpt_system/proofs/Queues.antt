@@ -4,6 +4,7 @@ use Rattle.std.proofs.Common.{◌≡◌, ℕ, zero, suc, Bool, true, false, List
 use Rattle.std.proofs.lemmas.List.{length-replicate}
 use Rattle.mpt_trace.specs.declared.choice.Choice.{Choice}
 use Rattle.mpt_trace.specs.declared.choice.Choice.TheVariants as choice
+use Rattle.mpt_trace.specs.declared.disk_spec.DiskSpec.{DiskSpec}
 use Rattle.mpt_trace.specs.declared.entry.Entry.{Entry}
 use Rattle.mpt_trace.specs.declared.input.Input.{Input}
 use Rattle.mpt_trace.specs.declared.input.Input.TheVariants as input
@@ -136,11 +137,11 @@ first_has : (s : Setting) → IsSized (first_world s)
 first_has s = (length-replicate s.queues 0 ∙ sym (length-replicate s.queues []), length-replicate 64 phase.Absent)
 
 -- so it holds of every whole that is reached
-reached_sized : (w : World) (t : List Entry) → IsReached w t → IsSized w
+reached_sized : {disks : List DiskSpec} (w : World) (t : List Entry) → IsReached disks w t → IsSized w
 reached_sized w t r = subst IsSized (sym r.of_cases.reached) (run_keeps r.of_cases.cases (first_world r.setting) (first_has r.setting))
 
-pub reached_lanes : (w : World) (t : List Entry) → IsReached w t → HasLanes w
+pub reached_lanes : {disks : List DiskSpec} (w : World) (t : List Entry) → IsReached disks w t → HasLanes w
 reached_lanes w t r = (reached_sized w t r).0
 
-pub reached_phases : (w : World) (t : List Entry) → IsReached w t → length w.host.phases ≡ 64
+pub reached_phases : {disks : List DiskSpec} (w : World) (t : List Entry) → IsReached disks w t → length w.host.phases ≡ 64
 reached_phases w t r = (reached_sized w t r).1

@@ -9,3 +9,4 @@ pub mod Turns
 pub mod Phases
 pub mod Places
 pub mod Weight
+pub mod Summary

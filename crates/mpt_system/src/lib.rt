@@ -9,6 +9,7 @@
 mod draining;
 mod faults;
 mod inputs;
+mod laws;
 mod making;
 mod parties;
 mod parts_summary;
@@ -21,6 +22,7 @@ mod queries;
 mod refusals;
 mod rounds;
 mod stepping;
+mod summary;
 mod system;
 mod takes;
 mod told;
@@ -31,7 +33,10 @@ mod works;
 
 pub use disk_machine::PartsSummary;
 pub use faults::{StepFault, SystemFault};
+pub use laws::disks_stay;
 pub use mpt_rules::OutOfMemory;
+pub use mpt_trace::Summary;
+pub use parts_summary::phases_summary;
 pub use place::{FramePlace, SmidPlace};
 pub use places::Places;
 pub use stepping::Moved;

@@ -23,8 +23,9 @@ impl System {
     }
 }
 
-// The same of a host, where all is quiet or not.
-fn phases_summary(host: &Host, quiet: bool) -> PartsSummary
+/// The same of a host, where all is quiet or not. The host has a phase for each of the 64 handles, as
+/// every host that is made has, and as each step of a system keeps it.
+pub fn phases_summary(host: &Host, quiet: bool) -> PartsSummary
     requires { length host.now.host.phases ≡ HANDLES }
     ensures { result ≡ parts_with host.now.host.phases quiet }
 {

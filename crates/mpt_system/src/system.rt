@@ -16,6 +16,8 @@ use std::marker::Model;
 #[derive(Drop)]
 pub struct System {
     pub(crate) parties: Parties,
+    // As they were declared.
+    pub(crate) disks: Vec<DiskSpec>,
 }
 
 impl Model for System {
@@ -32,7 +34,7 @@ impl Model for System {
 
     ghost view = { λ s. whole_of s.parties };
 
-    ghost invariant = { λ s. let whole = whole_of s.parties in IsReached whole.world whole.entries };
+    ghost invariant = { λ s. let whole = whole_of s.parties in IsReached s.disks.items whole.world whole.entries };
 }
 
 impl System {
@@ -72,8 +74,12 @@ impl System {
             return Err(SystemFault::TooManyDisks);
         }
         addresses_fit(disks);
+        let declared = disks.to_vec(alloc)?;
         let fabric = Fabric::new(alloc, make_disks(alloc, disks)?, phys.to_vec(alloc)?)?;
         let parties = Parties::new(alloc, fabric, phys, queues)?;
-        Ok(System { parties })
+        Ok(System {
+            parties,
+            disks: declared,
+        })
     }
 }

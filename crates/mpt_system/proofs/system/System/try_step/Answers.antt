@@ -6,7 +6,7 @@ use Rattle.mpt_system.proofs.system.System.try_step.Goals as goal
 use Rattle.mpt_system.proofs.system.System.try_step.Goals.{In_ok-write_told}
 
 -- what was told is written
-ready : (c : In_ok-write_told) → IsReached (whole_of c.write_told.new.self).world (whole_of c.write_told.new.self).entries
+ready : (c : In_ok-write_told) → IsReached c.self.inside.disks.items (whole_of c.write_told.new.self).world (whole_of c.write_told.new.self).entries
 ready c = reached_written (whole_of c.self.inside.parties) (whole_of c.write_told.new.self) c.in_ok-write_told.ensures.ok c.self.invariant
 
 pub take_step-requires-clause-lanes : goal.take_step-requires-clause-lanes

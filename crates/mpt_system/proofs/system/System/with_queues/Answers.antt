@@ -27,7 +27,9 @@ invariant_of-result c =
     ∙ (ap (λ ds. making_refusal ds c.in_ok-to_vec.field-0.items) (sym c.in_ok-make_disks.ensures) ∙ sym c.in_ok-fabric.ensures.refused) in
     let blocks : list_all has_fit_blocks c.args.disks.now ≡ true = search in
     let within = within_limits c.args.disks.now c.args.phys.now c.args.queues blocks refused c.addresses_fit.ensures c.requires in
-    subst (λ (x : Whole). IsReached x.world x.entries) (sym (made c)) (reached_first (record { disks = c.args.disks.now; phys = c.args.phys.now; queues = c.args.queues }) within)
+    let first = subst (λ (x : Whole). IsReached c.args.disks.now x.world x.entries) (sym (made c)) (reached_first (record { disks = c.args.disks.now; phys = c.args.phys.now; queues = c.args.queues }) within) in
+    let copied : c.in_ok-declared.declared.items ≡ c.args.disks.now = c.in_ok-declared.ensures.items_if_clones_equal (λ x y e. e) in
+    subst (λ ds. IsReached ds (whole_of c.in_ok-parties.parties).world (whole_of c.in_ok-parties.parties).entries) (sym copied) first
 
 pub returns-clause-made : goal.returns-clause-made
 returns-clause-made c = made c
