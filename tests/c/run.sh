@@ -55,6 +55,11 @@ differs "decode scsi" "$room/listing" crates/mpt_cli/stdout
 } >"$room/decode.stdout"
 differs decode "$room/decode.stdout" examples/c/decode.stdout
 
+for name in device both; do
+    $checked "$room/$name" >"$room/$name.stdout" || failed=1
+    differs $name "$room/$name.stdout" examples/c/$name.stdout
+done
+
 $checked "$room/border" || failed=1
 
 [ "$failed" -eq 0 ] && echo "c: the examples ran${checked:+ under valgrind}, and wrote what is stored"

@@ -1,2 +1,4 @@
 -- What the exports promise to C.
 pub mod Answers
+pub mod Holding
+pub mod OnHandles

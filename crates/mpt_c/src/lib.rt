@@ -2,4 +2,10 @@
 //! its clauses again. `include/mpt.h` declares the exports, and tests there what they ask of C.
 #![tactic(auto)]
 
+mod device;
+mod driver;
+mod fabric;
+mod fabric_handle;
+mod host_handle;
+mod ioc_handle;
 mod messages;

@@ -9,3 +9,5 @@ code_number code.NoSuch = 2
 code_number code.Refused = 3
 code_number code.ShortBuffer = 4
 code_number code.NoMemory = 5
+code_number code.Nothing = 6
+code_number code.Empty = 7

@@ -15,6 +15,10 @@ pub enum CallCode {
     ShortBuffer,
     /// There was no memory left, and nothing changed.
     NoMemory,
+    /// There is nothing that the call could do.
+    Nothing,
+    /// The handle is empty.
+    Empty,
 }
 
 impl CallCode {
@@ -28,6 +32,8 @@ impl CallCode {
             CallCode::Refused => 3,
             CallCode::ShortBuffer => 4,
             CallCode::NoMemory => 5,
+            CallCode::Nothing => 6,
+            CallCode::Empty => 7,
         }
     }
 }

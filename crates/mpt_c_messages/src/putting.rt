@@ -1,6 +1,6 @@
 //! Bytes for a buffer of C's.
-ghost use Rattle.std.specs.Prelude.{◌≡◌, ◌≤◌, ◌++◌, length, drop};
-ghost use Rattle.mpt_c_messages.specs.Putting.{IsPut};
+ghost use Rattle.std.specs.Prelude.{◌≡◌, ◌≤◌, length};
+ghost use Rattle.mpt_c_messages.specs.Putting.{IsPut, over};
 
 use crate::call_code::CallCode;
 
@@ -17,10 +17,10 @@ pub fn put_bytes(bytes: &[u8], code: CallCode, out: &mut [u8], length: &mut usiz
     code
 }
 
-// Writes the bytes at the front. The others stay.
-fn put_front(bytes: &[u8], out: &mut [u8])
+/// Writes the bytes at the front of the buffer. The others stay.
+pub fn put_front(bytes: &[u8], out: &mut [u8])
     requires { length bytes.now ≤ length out.old }
-    ensures { out.new ≡ bytes.now ++ drop (length bytes.now) out.old }
+    ensures { out.new ≡ over bytes.now out.old }
 {
     out[..bytes.len()].copy_from_slice(bytes);
 }
