@@ -22,7 +22,7 @@ typedef enum mpt_code {
     MPT_NULL = 1,         /* a pointer is null that may not be; nothing changed */
     MPT_NO_SUCH = 2,      /* a number that the call was given names nothing; nothing changed */
     MPT_REFUSED = 3,      /* the bytes are refused, or what is asked for; of a handle nothing changed */
-    MPT_SHORT_BUFFER = 4, /* the buffer is too short, and stays; the call says how long it has to be */
+    MPT_SHORT_BUFFER = 4, /* the buffer is too short, and stays; mpt_list says how long it has to be */
     MPT_NO_MEMORY = 5,    /* there was no memory left; nothing changed */
     MPT_NOTHING = 6,      /* there is nothing that the call could do; nothing changed */
     MPT_EMPTY = 7         /* the handle is empty */
@@ -89,7 +89,7 @@ static inline mpt_code mpt_list(mpt_form form, const void *bytes, size_t size, c
  * Handles. Each is a pointer in memory of the caller's, which begins as MPT_EMPTY_HANDLE and is filled by its _new and
  * emptied by its _free; it lives until then. A call on one that is empty answers MPT_EMPTY. A handle isn't copied, its
  * pointer is neither read nor written, and it is used by one call at a time and on one thread: the one that made it.
- * Handles don't share anything, so each may have a thread of its own; a call that takes two has both.
+ * Two handles share nothing, so each may have a thread of its own, but for those that one call takes together.
  *
  * Each other pointer is read or written only during the call, to the length that stands beside it or of its type, and
  * what it points to is nobody else's then. Two pointers of one call point to different memory.
