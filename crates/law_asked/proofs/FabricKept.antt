@@ -46,9 +46,10 @@ use Rattle.law_facts.specs.Words.{others}
 use Rattle.law_messages.proofs.Agreeing.{all_more, not_both, same}
 use Rattle.law_messages.proofs.Leads.{Leads}
 use Rattle.law_messages.proofs.PostsKept.{found_all, found_passes, live_is_open}
+use Rattle.law_asked.specs.Asked.{TasksStand}
 use Rattle.law_asked.proofs.AtFabric as place
 use Rattle.law_asked.proofs.Lists.{all_mapped}
-use Rattle.law_asked.proofs.Opened.{IsOpen, opened}
+use Rattle.law_asked.proofs.Opened.{CommandOpened, opened}
 
 -- ---- items that are no result
 
@@ -138,7 +139,7 @@ unplugs k x address h = by_disk (disk_of x address)
 -- ---- a task that runs
 
 module _ (w : World) (h : History) (f : Facts w h) where
-  outcome_at : (n tag : ℕ) (t : Task) → find (has_tag tag) w.fabric.tasks ≡ Some t → (i : IsOpen w h n tag) → (i.request.address ≡ t.address) → (i.request.command ≡ t.command)
+  outcome_at : (n tag : ℕ) (t : Task) → find (has_tag tag) w.fabric.tasks ≡ Some t → (i : CommandOpened w h n tag) → (i.request.address ≡ t.address) → (i.request.command ≡ t.command)
       → (history_after h (entry.Run t.address tag ∷ [])).machine.outcome n ≡ Some (tasks.performed_at w.fabric t.address t.command).result
   outcome_at n tag t e i a c = subst (λ q. (after_all h.machine (step_if q (λ m. Runs m t.address) ∷ [])).outcome n ≡ Some (tasks.performed_at w.fabric t.address t.command).result) (sym i.number)
       (subst (λ q. (run_at h.machine n t.address q (h.machine.disks t.address)).outcome n ≡ Some (tasks.performed_at w.fabric t.address t.command).result) (sym i.asked) (by_disks (h.machine.disks t.address) (disk_of w.fabric t.address) refl refl (f.disks.disk t.address)))
@@ -185,12 +186,8 @@ module _ (w : World) (h : History) (f : Facts w h) where
 
   -- ---- each case
 
-  record Stands (v : World) (k : History) : Type 0 where
-    pub tasks : All (TaskIs k) v.fabric.tasks
-    pub back : All (BackIs k) (back_line v)
-
   unfoldable OnCase : World → List Entry → Type 0
-  OnCase v t = Leads w h v.host (history_after h t) → Stands v (history_after h t)
+  OnCase v t = Leads w h v.host (history_after h t) → TasksStand v (history_after h t)
 
   first_of : (k : History) (xs ys : List Back) → All (BackIs k) (xs ++ ys) → All (BackIs k) xs
   first_of k xs ys a = Rattle.law_messages.proofs.Agreeing.all_first (BackIs k) xs ys a
@@ -317,6 +314,6 @@ module _ (w : World) (h : History) (f : Facts w h) where
         calms = by_fabric (fab.calms w.fabric) (record w { fabric = fab.calms w.fabric }) [] refl refl (λ l. has_news (history_after h []) w.fabric (back.Calm ∷ []) (one (BackIs (history_after h [])) back.Calm tt) (has_now (record w { fabric = fab.calms w.fabric }) [] l));
       }
 
-  pub fabric_kept : NothingIsStrange w → (c : Case) → Leads w h (happens w c).host (history_after h (entries w c)) → All (TaskIs (history_after h (entries w c))) (happens w c).fabric.tasks × All (BackIs (history_after h (entries w c))) (back_line (happens w c))
+  pub fabric_kept : NothingIsStrange w → (c : Case) → Leads w h (happens w c).host (history_after h (entries w c)) → TasksStand (happens w c) (history_after h (entries w c))
   unfolding OnCase
-  fabric_kept plain c l = let s = kept_told OnCase w plain owes c l in (s.tasks, s.back)
+  fabric_kept plain c l = kept_told OnCase w plain owes c l

@@ -13,7 +13,7 @@ use Rattle.law_facts.specs.Words.{slot}
 use Rattle.law_messages.proofs.Known.{classed, command_of, inside}
 use Rattle.law_messages.proofs.PostsKept.{open_request}
 
-pub record IsOpen (w : World) (h : History) (n s : ℕ) : Type 0 where
+pub record CommandOpened (w : World) (h : History) (n s : ℕ) : Type 0 where
   pub cmd : Cmd
   pub named : finmap.get w.host.cmds n ≡ Some cmd
   pub smid : cmd.smid ≡ s
@@ -25,10 +25,10 @@ pub record IsOpen (w : World) (h : History) (n s : ℕ) : Type 0 where
   pub least : 1 ≤ s
   pub most : s ≤ 256
 
-pub opened : (w : World) (h : History) → Facts w h → (n s : ℕ) → slot w.host s ≡ Open (request.Command n) → IsOpen w h n s
+pub opened : (w : World) (h : History) → Facts w h → (n s : ℕ) → slot w.host s ≡ Open (request.Command n) → CommandOpened w h n s
 opened w h f n s e = by_cmd (finmap.get w.host.cmds n) refl (command_of w h f n s e)
   where
-    by_cmd : (c : Option Cmd) → finmap.get w.host.cmds n ≡ c → option_map (λ (c : Cmd). c.smid) c ≡ Some s → IsOpen w h n s
+    by_cmd : (c : Option Cmd) → finmap.get w.host.cmds n ≡ c → option_map (λ (c : Cmd). c.smid) c ≡ Some s → CommandOpened w h n s
     by_cmd None g z = absurd (cc)
     by_cmd (Some c) g z =
         let y : c.smid ≡ s = cc in

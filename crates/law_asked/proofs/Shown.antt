@@ -19,7 +19,7 @@ use Rattle.law_asked.proofs.HeldKept.{held_kept}
 use Rattle.law_asked.proofs.ReadBack.{command_read}
 
 pub tasks_are_kept : (w : World) (h : History) (c : Case) → Facts w h → NothingIsStrange w → AbortsAreAccepted w → TasksStand (happens w c) (history_after h (entries w c))
-tasks_are_kept w h c f plain a = let s = fabric_kept w h f plain c (leads w h c f plain a) in record { tasks = s.0; back = s.1 }
+tasks_are_kept w h c f plain a = fabric_kept w h f plain c (leads w h c f plain a)
 
 pub held_resets_are_kept : (w : World) (h : History) (c : Case) → Facts w h → NothingIsStrange w → AbortsAreAccepted w → ResetsWait (happens w c)
 held_resets_are_kept w h c f plain a = held_kept w h f plain c (whole_kept w h f plain c) (leads w h c f plain a)
