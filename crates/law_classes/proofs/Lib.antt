@@ -1,0 +1,2 @@
+mod Posts
+pub mod Classed

@@ -1,0 +1,13 @@
+//! The laws.
+ghost use Rattle.mpt_rules.specs.Law.{NothingIsStrange};
+ghost use Rattle.mpt_rules.specs.World.Cases.{Case, entries};
+ghost use Rattle.mpt_rules.specs.World.State.{World};
+ghost use Rattle.mpt_wire.specs.Queues.Identifiers.{ClassesKept};
+ghost use Rattle.law_facts.specs.Facts.{Facts};
+ghost use Rattle.law_facts.specs.History.{History};
+
+/// Where all facts hold of a world and nothing on its way is strange to its host, each post that a case puts has an identifier of the class of its
+/// descriptor's kind, and each reply that a case puts under identifier 0 is an event.
+pub fn classes_are_kept()
+    ensures { (w : World) (h : History) (c : Case) → Facts w h → NothingIsStrange w → ClassesKept (entries w c) }
+{}

@@ -1,0 +1,6 @@
+//! Laws of the classes of identifiers. The functions do nothing: what their contracts say is all that they are for.
+#![tactic(auto)]
+
+mod laws;
+
+pub use laws::classes_are_kept;
