@@ -1,2 +1,4 @@
 mod Posts
+mod Asks
 pub mod Classed
+pub mod MadeFirst

@@ -78,6 +78,28 @@ module _ (w : World) (h : History) (f : Facts w h) where
       same : (c : Cmd) → Some c.smid ≡ Some (smid_in p.descriptor) → c.smid ≡ smid_in p.descriptor
       same c e = cc
 
+  -- the kind of what is open under it
+  abbrev pub kind_of : Request → PostKind
+  kind_of (request.Command n) = post.ScsiIo
+  kind_of (request.Abort n task) = post.HighPriority
+  kind_of (request.TargetReset address) = post.HighPriority
+  kind_of (request.Leave handle) = post.HighPriority
+  kind_of _ = post.Default
+
+  posts_by : (p : Post) (r : Request) (kind : PostKind) → slot w.host (smid_in p.descriptor) ≡ Open r → p.descriptor ≡ Rattle.mpt_wire.specs.Messages.Fields.post_descriptor kind 0 (smid_in p.descriptor) 0 → kind_in p.descriptor ≡ Some kind
+  posts_by p r kind e a = let l = inside w h f (smid_in p.descriptor) r e in ap kind_in a ∙ kind_posted kind 0 (smid_in p.descriptor) 0 (omega arith) (omega (arith, l))
+
+  pub posted_kind : (p : Post) (r : Request) → slot w.host (smid_in p.descriptor) ≡ Open r → PostIs w h p (Open r) → kind_in p.descriptor ≡ Some (kind_of r)
+  posted_kind p (request.Command n) e a = command p n e (finmap.get w.host.cmds n) (finmap.get h.machine.requests n) refl a
+  posted_kind p (request.Abort n task) e a = posts_by p (request.Abort n task) post.HighPriority e a.0.0
+  posted_kind p (request.TargetReset address) e a = posts_by p (request.TargetReset address) post.HighPriority e a.0
+  posted_kind p (request.Leave handle) e a = posts_by p (request.Leave handle) post.HighPriority e a.0.0
+  posted_kind p (request.Page handle) e a = posts_by p (request.Page handle) post.Default e a.0
+  posted_kind p (request.Remove handle) e a = posts_by p (request.Remove handle) post.Default e a.0
+  posted_kind p (request.Ack event context) e a = posts_by p (request.Ack event context) post.Default e a.0
+  posted_kind p request.Notification e a = posts_by p request.Notification post.Default e a.0
+  posted_kind p request.PortEnable e a = posts_by p request.PortEnable post.Default e a.0
+
   pub post_class : (p : Post) → PostIsRecord w h p → IsOfKind (kind_in p.descriptor) (smid_in p.descriptor)
   post_class p a = by_slot (slot w.host (smid_in p.descriptor)) refl a
     where

@@ -5,9 +5,16 @@ ghost use Rattle.mpt_rules.specs.World.State.{World};
 ghost use Rattle.mpt_wire.specs.Queues.Identifiers.{ClassesKept};
 ghost use Rattle.law_facts.specs.Facts.{Facts};
 ghost use Rattle.law_facts.specs.History.{History};
+ghost use Rattle.law_classes.specs.Made.{NotificationsAreFirst, PutAsMade};
 
 /// Where all facts hold of a world and nothing on its way is strange to its host, each post that a case puts has an identifier of the class of its
 /// descriptor's kind, and each reply that a case puts under identifier 0 is an event.
 pub fn classes_are_kept()
     ensures { (w : World) (h : History) (c : Case) → Facts w h → NothingIsStrange w → ClassesKept (entries w c) }
+{}
+
+/// Where besides an event notification is open under the first identifier of its class alone: each post of task management, and each of the internal
+/// class, that a case puts has the identifier that was made first of its class, and the event notification that first one.
+pub fn posts_go_as_made()
+    ensures { (w : World) (h : History) (c : Case) → Facts w h → NothingIsStrange w → NotificationsAreFirst w → PutAsMade h (entries w c) }
 {}

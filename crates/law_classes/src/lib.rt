@@ -3,4 +3,4 @@
 
 mod laws;
 
-pub use laws::classes_are_kept;
+pub use laws::{classes_are_kept, posts_go_as_made};

@@ -1,0 +1,20 @@
+-- What the rule on the identifiers of posts asks of a case's entries, and what no fact says of the event notification.
+use Rattle.std.specs.Prelude.{◌≡◌, ℕ, List}
+use Rattle.smid_pool.specs.Pool.{Open}
+use Rattle.mpi_rings.specs.declared.request_descriptor.PostKind.TheVariants as post
+use Rattle.mpt_trace.specs.declared.entry.Entry.{Entry}
+use Rattle.mpt_wire.specs.Queues.Identifiers.{first_smid}
+use Rattle.mpt_wire.specs.Queues.LeastPosts.{GivingAsks, giving_next}
+use Rattle.mpt_wire.specs.Walks.Ahead.{PassesAhead}
+use Rattle.mpt_rules.specs.declared.request.Request.TheVariants as request
+use Rattle.mpt_rules.specs.World.State.{World}
+use Rattle.law_facts.specs.History.{History}
+use Rattle.law_facts.specs.Words.{slot}
+
+-- an event notification is open under the first identifier of its class alone
+abbrev pub NotificationsAreFirst : World → Type 0
+NotificationsAreFirst w = (s : ℕ) → slot w.host s ≡ Open request.Notification → s ≡ first_smid post.Default
+
+-- each post that is put is the one that was made first, of its class
+abbrev pub PutAsMade : History → List Entry → Type 0
+PutAsMade h t = PassesAhead giving_next GivingAsks h.giving t
