@@ -1,4 +1,6 @@
 mod Posts
 mod Asks
+pub mod FirstMoves
+pub mod NoticesFirst
 pub mod Classed
 pub mod MadeFirst

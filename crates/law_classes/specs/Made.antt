@@ -1,11 +1,12 @@
 -- What the rule on the identifiers of posts asks of a case's entries, and what no fact says of the event notification.
-use Rattle.std.specs.Prelude.{◌≡◌, ℕ, List}
+use Rattle.std.specs.Prelude.{◌≡◌, ℕ, All, List}
 use Rattle.smid_pool.specs.Pool.{Open}
 use Rattle.mpi_rings.specs.declared.request_descriptor.PostKind.TheVariants as post
 use Rattle.mpt_trace.specs.declared.entry.Entry.{Entry}
 use Rattle.mpt_wire.specs.Queues.Identifiers.{first_smid}
 use Rattle.mpt_wire.specs.Queues.LeastPosts.{GivingAsks, giving_next}
 use Rattle.mpt_wire.specs.Walks.Ahead.{PassesAhead}
+use Rattle.mpt_rules.specs.declared.request.Request.{Request}
 use Rattle.mpt_rules.specs.declared.request.Request.TheVariants as request
 use Rattle.mpt_rules.specs.World.State.{World}
 use Rattle.law_facts.specs.History.{History}
@@ -18,3 +19,13 @@ NotificationsAreFirst w = (s : ℕ) → slot w.host s ≡ Open request.Notificat
 -- each post that is put is the one that was made first, of its class
 abbrev pub PutAsMade : History → List Entry → Type 0
 PutAsMade h t = PassesAhead giving_next GivingAsks h.giving t
+
+-- the request isn't an event notification
+abbrev pub IsNoNotification : Request → Type 0
+IsNoNotification request.Notification = ⊥
+IsNoNotification _ = Unit {0}
+
+-- so it is, and none waits for an identifier
+pub record NotificationsStand (w : World) : Type 0 where
+  pub first : NotificationsAreFirst w
+  pub waiting : All IsNoNotification w.host.wait_internal

@@ -3,4 +3,6 @@
 
 mod laws;
 
-pub use laws::{classes_are_kept, posts_go_as_made};
+pub use laws::{
+    classes_are_kept, notifications_stand_at_first, notifications_stay_first, posts_go_as_made,
+};
