@@ -1,0 +1,3 @@
+mod IocFit
+mod FabricFit
+mod WiringKept
