@@ -2,5 +2,6 @@ mod Posts
 mod Asks
 pub mod FirstMoves
 pub mod NoticesFirst
+pub mod Leasts
 pub mod Classed
 pub mod MadeFirst

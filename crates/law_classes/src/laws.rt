@@ -6,7 +6,7 @@ ghost use Rattle.mpt_rules.specs.World.State.{World};
 ghost use Rattle.mpt_wire.specs.Queues.Identifiers.{ClassesKept};
 ghost use Rattle.law_facts.specs.Facts.{Facts};
 ghost use Rattle.law_facts.specs.History.{History};
-ghost use Rattle.law_classes.specs.Made.{NotificationsAreFirst, NotificationsStand, PutAsMade};
+ghost use Rattle.law_classes.specs.Made.{LeastsAgree, NotificationsAreFirst, NotificationsStand, PutAsMade};
 
 /// Where all facts hold of a world and nothing on its way is strange to its host, each post that a case puts has an identifier of the class of its
 /// descriptor's kind, and each reply that a case puts under identifier 0 is an event.
@@ -29,4 +29,10 @@ pub fn notifications_stay_first()
 /// So it is in the first world of any setting.
 pub fn notifications_stand_at_first()
     ensures { (s : Setting) → NotificationsStand (first_world s) }
+{}
+
+/// Where all facts hold of a world, the least identifier of task management that isn't open by the rule on posts is the one that the host gives next; and
+/// so it is of the internal class, where each event notification that is open was put.
+pub fn leasts_agree()
+    ensures { (w : World) (h : History) → Facts w h → LeastsAgree w h }
 {}

@@ -4,5 +4,6 @@
 mod laws;
 
 pub use laws::{
-    classes_are_kept, notifications_stand_at_first, notifications_stay_first, posts_go_as_made,
+    classes_are_kept, leasts_agree, notifications_stand_at_first, notifications_stay_first,
+    posts_go_as_made,
 };
