@@ -1,3 +1,5 @@
 mod IocFit
 mod FabricFit
 mod WiringKept
+mod HostNames
+pub mod NamesKept
