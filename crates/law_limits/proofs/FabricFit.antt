@@ -19,33 +19,33 @@ use Rattle.law_facts.specs.Limits.{IsAddress, IsPlace, NoticeFits}
 use Rattle.law_flights.proofs.IocTakes.{length_map}
 use Rattle.law_limits.proofs.IocFit.{PhysFit}
 
-abbrev pub AreApart : FabricDisk → FabricDisk → Type 0
-AreApart d e = d.address ≢ e.address
+abbrev pub AddressesDiffer : FabricDisk → FabricDisk → Type 0
+AddressesDiffer d e = d.address ≢ e.address
 
-abbrev pub HasAddress : FabricDisk → Type 0
-HasAddress d = IsAddress d.address
+abbrev pub AddressFits : FabricDisk → Type 0
+AddressFits d = IsAddress d.address
 
 pub record DisksFit (ds : List FabricDisk) : Type 0 where
   pub few : length ds ≤ 64
-  pub addresses : All HasAddress ds
-  pub apart : AllPairs AreApart ds
+  pub addresses : All AddressFits ds
+  pub apart : AllPairs AddressesDiffer ds
 
-pub record FitsFabric (disks : List FabricDisk) (notices out : List Back) : Type 0 where
+pub record FitsOfFabric (disks : List FabricDisk) (notices out : List Back) : Type 0 where
   pub disks_are : DisksFit disks
   pub announced : All NoticeFits notices
   pub told : All NoticeFits out
 
-abbrev pub FabricFits : Fabric → Type 0
-FabricFits x = FitsFabric x.disks x.notices x.out
+abbrev pub FabricIsFit : Fabric → Type 0
+FabricIsFit x = FitsOfFabric x.disks x.notices x.out
 
 -- ---- disks that keep their addresses
 
 module _ (g : FabricDisk → FabricDisk) (same : (d : FabricDisk) → (g d).address ≡ d.address) where
-  addresses_kept : (ds : List FabricDisk) → All HasAddress ds → All HasAddress (map g ds)
-  addresses_kept [] h = All-nil HasAddress
-  addresses_kept (d ∷ ds) h = All-cons HasAddress (g d) (map g ds) (subst IsAddress (sym (same d)) (All-head HasAddress d ds h)) (addresses_kept ds (All-tail HasAddress d ds h))
+  addresses_kept : (ds : List FabricDisk) → All AddressFits ds → All AddressFits (map g ds)
+  addresses_kept [] h = All-nil AddressFits
+  addresses_kept (d ∷ ds) h = All-cons AddressFits (g d) (map g ds) (subst IsAddress (sym (same d)) (All-head AddressFits d ds h)) (addresses_kept ds (All-tail AddressFits d ds h))
 
-  apart_kept : (ds : List FabricDisk) → AllPairs AreApart ds → AllPairs AreApart (map g ds)
+  apart_kept : (ds : List FabricDisk) → AllPairs AddressesDiffer ds → AllPairs AddressesDiffer (map g ds)
   apart_kept ds h i j d l m =
       let n : length (map g ds) ≡ length ds = length_map g ds in
       let k : j < length ds = omega (arith, m, n) in
@@ -111,35 +111,35 @@ of_tasks : (f : Task → Back) → ((t : Task) → NoticeFits (f t)) → (ts : L
 of_tasks f h [] = All-nil NoticeFits
 of_tasks f h (t ∷ ts) = All-cons NoticeFits (f t) (map f ts) (h t) (of_tasks f h ts)
 
-named : (x : Fabric) (ps : List Place) → All HasAddress x.disks → All PlaceFits ps → All NoticeFits (filter_map (plugged_there x) ps)
+named : (x : Fabric) (ps : List Place) → All AddressFits x.disks → All PlaceFits ps → All NoticeFits (filter_map (plugged_there x) ps)
 named x [] a h = All-nil NoticeFits
 named x (p ∷ ps) a h = by_disk (find (stands_at p.expander p.phy) x.disks) refl (named x ps a (All-tail PlaceFits p ps h))
   where
     by_disk : (o : Option FabricDisk) → find (stands_at p.expander p.phy) x.disks ≡ o → All NoticeFits (filter_map (plugged_there x) ps) → All NoticeFits (Rattle.std.specs.List.cons_option (option_map (λ disk. plugged_news disk p) o) (filter_map (plugged_there x) ps))
     by_disk None e rest = rest
-    by_disk (Some d) e rest = All-cons NoticeFits (plugged_news d p) _ (found_all HasAddress (stands_at p.expander p.phy) x.disks d e a, All-head PlaceFits p ps h) rest
+    by_disk (Some d) e rest = All-cons NoticeFits (plugged_news d p) _ (found_all AddressFits (stands_at p.expander p.phy) x.disks d e a, All-head PlaceFits p ps h) rest
 
-tells : (x : Fabric) (news : List Back) → All NoticeFits news → FabricFits x → FabricFits (tasks.told_also x news)
+tells : (x : Fabric) (news : List Back) → All NoticeFits news → FabricIsFit x → FabricIsFit (tasks.told_also x news)
 tells x news a h = record { disks_are = h.disks_are; announced = h.announced; told = All-append NoticeFits x.out news h.told a }
 
-noticed : (b : Bool) (y : Back) (x : Fabric) → NoticeFits y → FabricFits x → FabricFits (fab.with_notice b y x)
+noticed : (b : Bool) (y : Back) (x : Fabric) → NoticeFits y → FabricIsFit x → FabricIsFit (fab.with_notice b y x)
 noticed true y x f h = record { disks_are = h.disks_are; announced = All-append NoticeFits x.notices (y ∷ []) h.announced (one y f); told = h.told }
 noticed false y x f h = h
 
-with_disks : (a : ℕ) (g : FabricDisk → FabricDisk) → ((d : FabricDisk) → (g d).address ≡ d.address) → (x : Fabric) → FabricFits x → FabricFits (record x { disks = with_disk a g x.disks })
+with_disks : (a : ℕ) (g : FabricDisk → FabricDisk) → ((d : FabricDisk) → (g d).address ≡ d.address) → (x : Fabric) → FabricIsFit x → FabricIsFit (record x { disks = with_disk a g x.disks })
 with_disks a g same x h = record { disks_are = changed a g same x.disks h.disks_are; announced = h.announced; told = h.told }
 
 -- ---- the fabric's calls
 
-pub out_fits : (x : Fabric) (item : Out) → PhysFit x.phys → FabricFits x → FabricFits (fab.takes_out x item)
+pub out_fits : (x : Fabric) (item : Out) → PhysFit x.phys → FabricIsFit x → FabricIsFit (fab.takes_out x item)
 out_fits x (out.Task tag address command) p h = by_test (tasks.may_queue x tag address)
   where
-    by_test : (b : Bool) → FabricFits (tasks.with_task_taken_if b x tag address command)
+    by_test : (b : Bool) → FabricIsFit (tasks.with_task_taken_if b x tag address command)
     by_test true = h
     by_test false = tells x (back.Gone tag ∷ []) (one (back.Gone tag) tt) h
 out_fits x (out.Abort smid task) p h = by_test (tasks.is_queued x task)
   where
-    by_test : (b : Bool) → FabricFits (tasks.after_abort_if b x smid task)
+    by_test : (b : Bool) → FabricIsFit (tasks.after_abort_if b x smid task)
     by_test true = tells (record x { tasks = tasks.tasks_without task x.tasks }) (back.Terminated task ∷ back.Aborted smid true ∷ []) (All-cons NoticeFits (back.Terminated task) (back.Aborted smid true ∷ []) tt (one (back.Aborted smid true) tt)) h
     by_test false = tells x (back.Aborted smid false ∷ []) (one (back.Aborted smid false) tt) h
 out_fits x (out.TargetReset smid address) p h =
@@ -160,41 +160,41 @@ has_the_phy : (a b c d : Bool) → (if a then (if b then Some fab.PlugRefusal.Oc
 has_the_phy true b c d e = refl
 has_the_phy false b c d e = absurd (cc)
 
-pub plug_fits : (x : Fabric) (address expander phy : ℕ) → PhysFit x.phys → FabricFits x → FabricFits (fab.fabric_plugs x address expander phy).part
+pub plug_fits : (x : Fabric) (address expander phy : ℕ) → PhysFit x.phys → FabricIsFit x → FabricIsFit (fab.fabric_plugs x address expander phy).part
 plug_fits x address expander phy p h = by_disk (disk_of x address) refl
   where
-    by_cause : (d : FabricDisk) (o : Option fab.PlugRefusal) → disk_of x address ≡ Some d → fab.plug_refusal x d expander phy ≡ o → FabricFits (fab.plugs_unless o x d (record { expander = expander; phy = phy })).part
+    by_cause : (d : FabricDisk) (o : Option fab.PlugRefusal) → disk_of x address ≡ Some d → fab.plug_refusal x d expander phy ≡ o → FabricIsFit (fab.plugs_unless o x d (record { expander = expander; phy = phy })).part
     by_cause d (Some cause) e f = h
     by_cause d None e f =
         let place : Place = record { expander = expander; phy = phy } in
         let there = has_the_phy (has_phy x expander phy) (is_occupied x expander phy) (is_some d.at) (nat_le 100000 d.plugs) f in
         let fits : IsPlace expander phy = phy_fits x.phys 16 expander phy p.0 p.1 (grind (arith, there)) in
-        noticed x.on (plugged_news (fab.plugged_once_more place d) place) (record x { disks = with_disk d.address (fab.plugged_once_more place) x.disks }) (found_all HasAddress (has_address address) x.disks d e h.disks_are.addresses, fits)
+        noticed x.on (plugged_news (fab.plugged_once_more place d) place) (record x { disks = with_disk d.address (fab.plugged_once_more place) x.disks }) (found_all AddressFits (has_address address) x.disks d e h.disks_are.addresses, fits)
         (with_disks d.address (fab.plugged_once_more place) (λ y. refl) x h)
 
-    by_disk : (o : Option FabricDisk) → disk_of x address ≡ o → FabricFits (fab.plugs_disk o x expander phy).part
+    by_disk : (o : Option FabricDisk) → disk_of x address ≡ o → FabricIsFit (fab.plugs_disk o x expander phy).part
     by_disk None e = h
     by_disk (Some d) e = by_cause d (fab.plug_refusal x d expander phy) e refl
 
-pub unplug_fits : (x : Fabric) (address : ℕ) → FabricFits x → FabricFits (fab.fabric_unplugs x address).part
+pub unplug_fits : (x : Fabric) (address : ℕ) → FabricIsFit x → FabricIsFit (fab.fabric_unplugs x address).part
 unplug_fits x address h = by_disk (disk_of x address)
   where
-    by_place : (o : Option Place) (d : FabricDisk) → FabricFits (fab.fabric_unplugs_from o x d).part
+    by_place : (o : Option Place) (d : FabricDisk) → FabricIsFit (fab.fabric_unplugs_from o x d).part
     by_place None d = h
     by_place (Some p) d = noticed x.on (unplugged_news d p) (tasks.told_also (record x { disks = with_disk d.address (λ (old : FabricDisk). record old { at = None }) x.disks; tasks = tasks.tasks_for_others d.address x.tasks }) (map tasks.gone (tasks.tasks_for d.address x.tasks))) tt (tells (record x { disks = with_disk d.address (λ (old : FabricDisk). record old { at = None }) x.disks; tasks = tasks.tasks_for_others d.address x.tasks }) (map tasks.gone (tasks.tasks_for d.address x.tasks)) (of_tasks tasks.gone (λ t. tt) (tasks.tasks_for d.address x.tasks)) (with_disks d.address (λ (old : FabricDisk). record old { at = None }) (λ y. refl) x h))
 
-    by_disk : (o : Option FabricDisk) → FabricFits (fab.unplugs_disk o x).part
+    by_disk : (o : Option FabricDisk) → FabricIsFit (fab.unplugs_disk o x).part
     by_disk None = h
     by_disk (Some d) = by_place d.at d
 
-pub run_fits : (x : Fabric) (tag : ℕ) → FabricFits x → FabricFits (fab.runs x tag).part
+pub run_fits : (x : Fabric) (tag : ℕ) → FabricIsFit x → FabricIsFit (fab.runs x tag).part
 run_fits x tag h = by_task (find (tasks.has_tag tag) x.tasks)
   where
-    by_task : (o : Option Task) → FabricFits (tasks.runs_task x o).part
+    by_task : (o : Option Task) → FabricIsFit (tasks.runs_task x o).part
     by_task None = h
     by_task (Some t) =
         let bytes = (tasks.performed_at x t.address t.command).bytes in
         tells (record x { disks = with_disk t.address (λ (disk : FabricDisk). record disk { bytes = bytes }) x.disks; tasks = tasks.tasks_without t.tag x.tasks }) (back.Result t.tag _ ∷ []) (one (back.Result t.tag _) tt) (with_disks t.address (λ (disk : FabricDisk). record disk { bytes = bytes }) (λ y. refl) x h)
 
-pub calm_fits : (x : Fabric) → FabricFits x → FabricFits (fab.calms x)
+pub calm_fits : (x : Fabric) → FabricIsFit x → FabricIsFit (fab.calms x)
 calm_fits x h = tells x (back.Calm ∷ []) (one back.Calm tt) h

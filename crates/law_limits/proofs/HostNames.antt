@@ -22,7 +22,7 @@ use Rattle.mpt_rules.specs.Host.Replies as replies
 use Rattle.mpt_rules.specs.Host.Returns as returns
 use Rattle.law_flights.proofs.HostMoves.{Acked, Acks, Accepts, Adds, Answers, Anew, AsksAbort, AsksTarget, AskedInternal, AskedLeave, BeginsMessages, ComesUp, EndsAbort, EndsTarget, Frees, FreedHigh, FreedInternal, FreesHigh, FreesInternal, GivesHigh, GivesInternal, GivesUp, Keeps, LeftAsks, LeftOnly, Leaves, Loses, Move, Notified, Posts, Puts, PutsRead, PutsWrites, Reads, Removes, Returns, Sets, Starts, TakesEntry, WaitsHigh, WaitsInternal}
 use Rattle.law_flights.proofs.HostTurns.{length_free}
-use Rattle.law_limits.specs.HandlesNamed.{NamesHandle, WaitNamesHandle}
+use Rattle.law_limits.specs.HandlesNamed.{NamesDiskHandle, WaitNamesDiskHandle}
 
 abbrev pub Cmds : Type 0
 Cmds = finmap.FinMap nat_cmp Cmd
@@ -30,9 +30,9 @@ Cmds = finmap.FinMap nat_cmp Cmd
 pub record NamesDisks (phases : List Phase) (cmds : Cmds) (pool : List (Slot Request)) (high : List ℕ) (internal : List Request) : Type 0 where
   pub handles : length phases ≡ 64
   pub commands : (n : ℕ) (c : Cmd) → finmap.get cmds n ≡ Some c → IsHandle c.handle
-  pub records : All NamesHandle pool
+  pub records : All NamesDiskHandle pool
   pub leaving : All IsHandle high
-  pub waits : All WaitNamesHandle internal
+  pub waits : All WaitNamesDiskHandle internal
 
 abbrev pub Names : Host → Type 0
 Names h = NamesDisks h.phases h.cmds h.pool h.wait_high h.wait_internal
@@ -40,8 +40,8 @@ Names h = NamesDisks h.phases h.cmds h.pool h.wait_high h.wait_internal
 to : (x h2 : Host) → h2 ≡ x → Names x → Names h2
 to x h2 e z = subst Names (sym e) z
 
-put : (h : Host) (s : ℕ) (x : Slot Request) → NamesHandle x → Names h → NamesDisks h.phases h.cmds (set h.pool (s - 1) x) h.wait_high h.wait_internal
-put h s x f z = record { handles = z.handles; commands = z.commands; records = All-set NamesHandle h.pool (s - 1) x f z.records; leaving = z.leaving; waits = z.waits }
+put : (h : Host) (s : ℕ) (x : Slot Request) → NamesDiskHandle x → Names h → NamesDisks h.phases h.cmds (set h.pool (s - 1) x) h.wait_high h.wait_internal
+put h s x f z = record { handles = z.handles; commands = z.commands; records = All-set NamesDiskHandle h.pool (s - 1) x f z.records; leaving = z.leaving; waits = z.waits }
 
 phased : (h : Host) (handle : ℕ) (p : Phase) → Names h → NamesDisks (with_phase h.phases handle p) h.cmds h.pool h.wait_high h.wait_internal
 phased h handle p z = record { handles = length-set h.phases _ p ∙ z.handles; commands = z.commands; records = z.records; leaving = z.leaving; waits = z.waits }
@@ -52,7 +52,7 @@ granted h handle s z = phased h handle _ z
 leave : (h : Host) (s handle : ℕ) → IsHandle handle → Names h → Names (asks.posts_leave h s handle)
 leave h s handle i z = put (asks.grants h handle s) s (Open (request.Leave handle)) i (granted h handle s z)
 
-internal : (h : Host) (s : ℕ) (x : Request) → WaitNamesHandle x → Names h → Names (asks.posts_internal h s x)
+internal : (h : Host) (s : ℕ) (x : Request) → WaitNamesDiskHandle x → Names h → Names (asks.posts_internal h s x)
 internal h s (request.Page handle) i z = put (asks.grants h handle s) s (Open (request.Page handle)) i (granted h handle s z)
 internal h s (request.Remove handle) i z = put (asks.grants h handle s) s (Open (request.Remove handle)) i (granted h handle s z)
 internal h s (request.Ack event context) i z = put h s (Open (request.Ack event context)) tt z
@@ -63,9 +63,9 @@ internal h s (request.Abort n task) i z = z
 internal h s (request.TargetReset address) i z = z
 internal h s (request.Leave handle) i z = z
 
-asked : (x : Request) (h h2 : Host) → AskedInternal x h h2 → WaitNamesHandle x → Names h → Names h2
+asked : (x : Request) (h h2 : Host) → AskedInternal x h h2 → WaitNamesDiskHandle x → Names h → Names h2
 asked x h h2 (Posts s f e) i z = to _ h2 e (internal h s x i z)
-asked x h h2 (WaitsInternal f e) i z = to _ h2 e (record { handles = z.handles; commands = z.commands; records = z.records; leaving = z.leaving; waits = All-append WaitNamesHandle h.wait_internal (x ∷ []) z.waits (All-cons WaitNamesHandle x [] i (All-nil WaitNamesHandle)) })
+asked x h h2 (WaitsInternal f e) i z = to _ h2 e (record { handles = z.handles; commands = z.commands; records = z.records; leaving = z.leaving; waits = All-append WaitNamesDiskHandle h.wait_internal (x ∷ []) z.waits (All-cons WaitNamesDiskHandle x [] i (All-nil WaitNamesDiskHandle)) })
 
 asked_leave : (handle : ℕ) (h h2 : Host) → AskedLeave handle h h2 → IsHandle handle → Names h → Names h2
 asked_leave handle h h2 (Leaves s f e) i z = to _ h2 e (leave h s handle i z)
@@ -81,20 +81,20 @@ freed_high s h h2 (GivesHigh handle rest w e) z =
 freed_internal : (s : ℕ) (h h2 : Host) → FreedInternal s h h2 → Names h → Names h2
 freed_internal s h h2 (FreesInternal w e) z = to _ h2 e (put h s Free tt z)
 freed_internal s h h2 (GivesInternal x rest w e) z =
-    let a : All WaitNamesHandle (x ∷ rest) = subst (All WaitNamesHandle) w z.waits in
+    let a : All WaitNamesDiskHandle (x ∷ rest) = subst (All WaitNamesDiskHandle) w z.waits in
     let y = put h s Free tt z in
-    to _ h2 e (internal (record (asks.frees h s) { wait_internal = rest }) s x (All-head WaitNamesHandle x rest a) (record { handles = y.handles; commands = y.commands; records = y.records; leaving = y.leaving; waits = All-tail WaitNamesHandle x rest a }))
+    to _ h2 e (internal (record (asks.frees h s) { wait_internal = rest }) s x (All-head WaitNamesDiskHandle x rest a) (record { handles = y.handles; commands = y.commands; records = y.records; leaving = y.leaving; waits = All-tail WaitNamesDiskHandle x rest a }))
 
 -- ---- what stands in the tables
 
-entry : (xs : List (Slot Request)) (k : ℕ) → All NamesHandle xs → NamesHandle (slice_index_or xs k Free)
+entry : (xs : List (Slot Request)) (k : ℕ) → All NamesDiskHandle xs → NamesDiskHandle (slice_index_or xs k Free)
 entry [] k a = tt
-entry (x ∷ xs) zero a = All-head NamesHandle x xs a
-entry (x ∷ xs) (suc k) a = entry xs k (All-tail NamesHandle x xs a)
+entry (x ∷ xs) zero a = All-head NamesDiskHandle x xs a
+entry (x ∷ xs) (suc k) a = entry xs k (All-tail NamesDiskHandle x xs a)
 
-at_slot : (h : Host) (s : ℕ) (x : Slot Request) → slot_of h.pool s ≡ x → Names h → NamesHandle x
-at_slot h zero x e z = subst NamesHandle e tt
-at_slot h (suc k) x e z = subst NamesHandle e (entry h.pool k z.records)
+at_slot : (h : Host) (s : ℕ) (x : Slot Request) → slot_of h.pool s ≡ x → Names h → NamesDiskHandle x
+at_slot h zero x e z = subst NamesDiskHandle e tt
+at_slot h (suc k) x e z = subst NamesDiskHandle e (entry h.pool k z.records)
 
 unparked : (h : Host) (task : ℕ) (x : Slot Request) → Names h → Names (replies.unparks h task x)
 unparked h task Parked z = put h task Free tt z
@@ -163,8 +163,8 @@ move_names h h2 (Frees s r o m e) z = to _ h2 e (put h s Free tt z)
 move_names h h2 (Answers s n how o e) z = to _ h2 e (answers (finmap.get h.aborts n))
   where
     answers : (o : Option ℕ) → NamesDisks h.phases (finmap.remove h.cmds n) (set h.pool (s - 1) (replies.slot_after o)) h.wait_high h.wait_internal
-    answers None = record { handles = z.handles; commands = λ k c q. z.commands k c (answered h.cmds n k c q); records = All-set NamesHandle h.pool (s - 1) Free tt z.records; leaving = z.leaving; waits = z.waits }
-    answers (Some x) = record { handles = z.handles; commands = λ k c q. z.commands k c (answered h.cmds n k c q); records = All-set NamesHandle h.pool (s - 1) Parked tt z.records; leaving = z.leaving; waits = z.waits }
+    answers None = record { handles = z.handles; commands = λ k c q. z.commands k c (answered h.cmds n k c q); records = All-set NamesDiskHandle h.pool (s - 1) Free tt z.records; leaving = z.leaving; waits = z.waits }
+    answers (Some x) = record { handles = z.handles; commands = λ k c q. z.commands k c (answered h.cmds n k c q); records = All-set NamesDiskHandle h.pool (s - 1) Parked tt z.records; leaving = z.leaving; waits = z.waits }
 move_names h h2 (EndsAbort s n task o f) z = freed_high s _ h2 f (unparked (record h { aborts = finmap.remove h.aborts n }) task (slot_of h.pool task) z)
 move_names h h2 (EndsTarget s address o f) z = freed_high s h h2 f z
 move_names h h2 (LeftAsks s handle m o r u f a) z = asked (request.Remove handle) m h2 a (at_slot h s (Open (request.Leave handle)) o z) (freed_high s _ m f (phased h handle _ z))
@@ -178,12 +178,12 @@ move_names h h2 (Acks event context b a) z = asked (request.Ack event context) h
 move_names h h2 (Adds handle b d p a) z = asked (request.Page handle) _ h2 a (disk_handle handle d) (phased h handle _ z)
 move_names h h2 (Loses handle p b d o r a) z =
     asked_leave handle _ h2 a (disk_handle handle d)
-    (record { handles = length-set h.phases _ _ ∙ z.handles; commands = z.commands; records = z.records; leaving = z.leaving; waits = All-filter _ WaitNamesHandle h.wait_internal z.waits })
+    (record { handles = length-set h.phases _ _ ∙ z.handles; commands = z.commands; records = z.records; leaving = z.leaving; waits = All-filter _ WaitNamesDiskHandle h.wait_internal z.waits })
 move_names h h2 (Accepts s n address handle command u a r f e) z =
     let i = ready_is_handle h.phases address handle z.handles r in
-    to _ h2 e (record { handles = z.handles; commands = λ k c q. accepted h.cmds n (record { smid = s; handle = handle }) k c i (z.commands k c) q; records = All-set NamesHandle h.pool (s - 1) (Open (request.Command n)) tt z.records; leaving = z.leaving; waits = z.waits })
+    to _ h2 e (record { handles = z.handles; commands = λ k c q. accepted h.cmds n (record { smid = s; handle = handle }) k c i (z.commands k c) q; records = All-set NamesDiskHandle h.pool (s - 1) (Open (request.Command n)) tt z.records; leaving = z.leaving; waits = z.waits })
 move_names h h2 (AsksAbort s n cmd u c a f e) z = to _ h2 e (put h s (Open (request.Abort n cmd.smid)) tt z)
 move_names h h2 (AsksTarget s address handle u r f e) z = to _ h2 e (put h s (Open (request.TargetReset address)) tt z)
 move_names h h2 (Starts o e) z = to _ h2 e z
-move_names h h2 (GivesUp s m e) z = to _ h2 e (record { handles = z.handles; commands = z.commands; records = z.records; leaving = All-nil IsHandle; waits = All-nil WaitNamesHandle })
-move_names h h2 (Anew g r m e) z = to _ h2 e (record { handles = length_free 64 phase.Absent; commands = λ n c q. none_open n c q; records = All-replicate NamesHandle 280 Free tt; leaving = z.leaving; waits = z.waits })
+move_names h h2 (GivesUp s m e) z = to _ h2 e (record { handles = z.handles; commands = z.commands; records = z.records; leaving = All-nil IsHandle; waits = All-nil WaitNamesDiskHandle })
+move_names h h2 (Anew g r m e) z = to _ h2 e (record { handles = length_free 64 phase.Absent; commands = λ n c q. none_open n c q; records = All-replicate NamesDiskHandle 280 Free tt; leaving = z.leaving; waits = z.waits })

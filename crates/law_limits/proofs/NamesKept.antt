@@ -17,10 +17,10 @@ use Rattle.law_facts.specs.Limits.{RecordFits, WaitFits}
 use Rattle.law_flights.proofs.HostMoves.{along, input_is_moves, item_is_moves, look_is_moves, stop_is_moves}
 use Rattle.law_moves.proofs.Cases.{Owes, kept}
 use Rattle.law_records.proofs.Recorded.{fits}
-use Rattle.law_limits.specs.HandlesNamed.{HandlesNamed, NamesHandle, WaitNamesHandle}
+use Rattle.law_limits.specs.HandlesNamed.{HandlesNamed, NamesDiskHandle, WaitNamesDiskHandle}
 use Rattle.law_limits.proofs.HostNames.{Names, move_names}
 
-names : (x : Slot Request) → RecordFits x → NamesHandle x
+names : (x : Slot Request) → RecordFits x → NamesDiskHandle x
 names Free f = tt
 names Parked f = tt
 names (Open (request.Leave handle)) f = f
@@ -39,7 +39,7 @@ each P Q g (x ∷ xs) a = All-cons Q x xs (g x (All-head P x xs a)) (each P Q g 
 
 module _ (w : World) (h : History) (f : Facts w h) (plain : NothingIsStrange w) where
   here : Names w.host
-  here = record { handles = f.flights.sizes.phases; commands = f.limits.cmds; records = each RecordFits NamesHandle names w.host.pool f.limits.records; leaving = f.handles.waits.handles; waits = each WaitFits WaitNamesHandle (λ r. names (Open r)) w.host.wait_internal f.limits.waits }
+  here = record { handles = f.flights.sizes.phases; commands = f.limits.cmds; records = each RecordFits NamesDiskHandle names w.host.pool f.limits.records; leaving = f.handles.waits.handles; waits = each WaitFits WaitNamesDiskHandle (λ r. names (Open r)) w.host.wait_internal f.limits.waits }
 
   sent : (x : Down) (rest : List Down) → Names (after_sent w.host x rest)
   sent (down.Return address index) rest = here

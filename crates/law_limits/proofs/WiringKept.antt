@@ -14,12 +14,12 @@ use Rattle.law_facts.specs.Limits.{Limits, NoticeFits}
 use Rattle.law_moves.proofs.Cases.{Owes, kept}
 use Rattle.law_limits.specs.Wiring.{WiringFits}
 use Rattle.law_limits.proofs.IocFit.{IsFit, PhysFit, back_fits, down_fits, post_fits}
-use Rattle.law_limits.proofs.FabricFit.{FabricFits, calm_fits, out_fits, plug_fits, run_fits, unplug_fits}
+use Rattle.law_limits.proofs.FabricFit.{FabricIsFit, calm_fits, out_fits, plug_fits, run_fits, unplug_fits}
 
 -- controller, fabric and the lane between them have what fits
 record FitsAll (ioc : Ioc) (fabric : Fabric) (back : List Back) : Type 0 where
   at_ioc : IsFit ioc
-  at_fabric : FabricFits fabric
+  at_fabric : FabricIsFit fabric
   on_lane : All NoticeFits back
 
 abbrev Fits : World → Type 0
@@ -37,13 +37,13 @@ module _ (w : World) (p : PhysFit w.fabric.phys) (z : Fits w) where
   by_ioc : (i : Ioc) → IsFit i → FitsAll i w.fabric w.back
   by_ioc i y = record { at_ioc = y; at_fabric = z.at_fabric; on_lane = z.on_lane }
 
-  by_fabric : (x : Fabric) → FabricFits x → FitsAll w.ioc x w.back
+  by_fabric : (x : Fabric) → FabricIsFit x → FitsAll w.ioc x w.back
   by_fabric x y = record { at_ioc = z.at_ioc; at_fabric = y; on_lane = z.on_lane }
 
   taken : (x : Back) (rest : List Back) → w.back ≡ x ∷ rest → All NoticeFits (x ∷ rest)
   taken x rest e = subst (All NoticeFits) e z.on_lane
 
-  said : (x : Back) (rest : List Back) → w.fabric.notices ≡ x ∷ rest → FabricFits (record w.fabric { notices = rest; out = w.fabric.out ++ x ∷ [] })
+  said : (x : Back) (rest : List Back) → w.fabric.notices ≡ x ∷ rest → FabricIsFit (record w.fabric { notices = rest; out = w.fabric.out ++ x ∷ [] })
   said x rest e =
       let a : All NoticeFits (x ∷ rest) = subst (All NoticeFits) e z.at_fabric.announced in
       record { disks_are = z.at_fabric.disks_are; announced = All-tail NoticeFits x rest a; told = All-append NoticeFits w.fabric.out (x ∷ []) z.at_fabric.told (All-cons NoticeFits x [] (All-head NoticeFits x rest a) (All-nil NoticeFits)) }

@@ -7,17 +7,17 @@ use Rattle.mpt_rules.specs.declared.request.Request.TheVariants as request
 use Rattle.mpt_rules.specs.World.State.{World}
 use Rattle.law_facts.specs.Limits.{CmdFits}
 
-abbrev pub NamesHandle : Slot Request → Type 0
-NamesHandle (Open (request.Leave handle)) = IsHandle handle
-NamesHandle (Open (request.Page handle)) = IsHandle handle
-NamesHandle (Open (request.Remove handle)) = IsHandle handle
-NamesHandle r = Unit {0}
+abbrev pub NamesDiskHandle : Slot Request → Type 0
+NamesDiskHandle (Open (request.Leave handle)) = IsHandle handle
+NamesDiskHandle (Open (request.Page handle)) = IsHandle handle
+NamesDiskHandle (Open (request.Remove handle)) = IsHandle handle
+NamesDiskHandle r = Unit {0}
 
-abbrev pub WaitNamesHandle : Request → Type 0
-WaitNamesHandle r = NamesHandle (Open r)
+abbrev pub WaitNamesDiskHandle : Request → Type 0
+WaitNamesDiskHandle r = NamesDiskHandle (Open r)
 
 -- of `Limits`: of records and waits what they say of handles, and all of `cmds`
 pub record HandlesNamed (w : World) : Type 0 where
-  pub records : All NamesHandle w.host.pool
-  pub waits : All WaitNamesHandle w.host.wait_internal
+  pub records : All NamesDiskHandle w.host.pool
+  pub waits : All WaitNamesDiskHandle w.host.wait_internal
   pub cmds : (n : ℕ) → CmdFits w n
