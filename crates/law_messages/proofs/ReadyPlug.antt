@@ -49,8 +49,10 @@ module _ (w : World) (h : History) (f : Facts w h) where
       by_place : (o : Option ℕ) → position (is_ready_at a) w.host.phases ≡ o → option_map (λ place. 0x0009 + place) o ≡ Some handle → (k : ℕ) × (h.machine.ready a ≡ Some k)
       by_place None p e = absurd (cc)
       by_place (Some place) p e =
-          let q = (position-Some (is_ready_at a) w.host.phases place phase.Absent p).1 in
+          let s = position-Some (is_ready_at a) w.host.phases place phase.Absent p in
+          let q = s.1 in
           let z : 0x0009 + place ≡ handle = cc in
+          let l = f.flights.sizes.phases in
           let i : place ≡ handle - 0x0009 = omega (arith, z) in
           let n : phase_of w handle ≡ phase.Ready a = ready_names a (phase_of w handle) (subst (λ j. is_ready_at a (get_or w.host.phases j phase.Absent) ≡ true) i q) in
-          by_plug (h.serving.bound handle) (subst (λ p. ReadyFits h handle p (h.serving.bound handle)) n (f.disks.ready (normal u) handle))
+          by_plug (h.serving.bound handle) (subst (λ p. ReadyFits h handle p (h.serving.bound handle)) n (f.disks.ready (normal u) handle (omega (arith, z), omega (arith, s.0, l, z))))
