@@ -1,0 +1,15 @@
+//! The laws.
+ghost use Rattle.mpt_rules.specs.Law.{NothingIsStrange};
+ghost use Rattle.mpt_rules.specs.World.Cases.{Case, entries, happens};
+ghost use Rattle.mpt_rules.specs.World.State.{World};
+ghost use Rattle.law_facts.specs.Facts.{Facts};
+ghost use Rattle.law_facts.specs.History.{History, history_after};
+ghost use Rattle.law_messages.specs.Numbers.{AbortsAreAccepted};
+ghost use Rattle.law_requests.specs.Bytes.{CommandsAreBytes, RequestsStand};
+
+/// Where all facts hold of a world, each open abort is of a number that was accepted, each open command is of bytes and for unit 0, and nothing on its
+/// way is strange to the host, each case keeps that what the controller has of an identifier at the fabric, and what it sends there, is of the
+/// identifier's record: the command with its handle, its reply queue and its disk's address.
+pub fn requests_are_kept()
+    ensures { (w : World) (h : History) (c : Case) → Facts w h → NothingIsStrange w → AbortsAreAccepted w → CommandsAreBytes h → RequestsStand (happens w c) (history_after h (entries w c)) }
+{}
