@@ -1,2 +1,3 @@
+pub mod BytesKept
 pub mod RequestsKept
 pub mod Shown
