@@ -3,3 +3,4 @@ mod FabricFit
 mod WiringKept
 mod HostNames
 pub mod NamesKept
+mod HostTells
