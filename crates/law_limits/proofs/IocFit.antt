@@ -93,7 +93,7 @@ binds_first ioc (d ∷ ds) f z =
     (record { phys_are = z.phys_are; context_is = z.context_is; bound = z.bound; awaited = All-tail WaitingFits d ds f })
 
 -- what a handle is bound to
-entry_fits : (bs : List Binding) (k : ℕ) → All BindingFits bs → BindingFits (slice_index_or bs k binding.Unbound)
+pub entry_fits : (bs : List Binding) (k : ℕ) → All BindingFits bs → BindingFits (slice_index_or bs k binding.Unbound)
 entry_fits [] k f = tt
 entry_fits (b ∷ bs) zero f = All-head BindingFits b bs f
 entry_fits (b ∷ bs) (suc k) f = entry_fits bs k (All-tail BindingFits b bs f)

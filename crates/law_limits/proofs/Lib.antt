@@ -4,3 +4,4 @@ mod WiringKept
 mod HostNames
 pub mod NamesKept
 mod HostTells
+pub mod LimitsKept

@@ -33,7 +33,7 @@ names (Open (request.TargetReset address)) f = tt
 names (Open request.Notification) f = tt
 names (Open request.PortEnable) f = tt
 
-each : {X : Type 0} (P Q : X → Type 0) → ((x : X) → P x → Q x) → (xs : List X) → All P xs → All Q xs
+pub each : {X : Type 0} (P Q : X → Type 0) → ((x : X) → P x → Q x) → (xs : List X) → All P xs → All Q xs
 each P Q g [] a = All-nil Q
 each P Q g (x ∷ xs) a = All-cons Q x xs (g x (All-head P x xs a)) (each P Q g xs (All-tail P x xs a))
 

@@ -4,6 +4,7 @@ ghost use Rattle.mpt_rules.specs.World.Cases.{Case, happens};
 ghost use Rattle.mpt_rules.specs.World.State.{World};
 ghost use Rattle.law_facts.specs.Facts.{Facts};
 ghost use Rattle.law_facts.specs.History.{History};
+ghost use Rattle.law_facts.specs.Limits.{Limits};
 ghost use Rattle.law_limits.specs.HandlesNamed.{HandlesNamed};
 ghost use Rattle.law_limits.specs.Wiring.{WiringFits};
 
@@ -17,4 +18,9 @@ pub fn wiring_is_kept()
 /// case leads to.
 pub fn handles_are_of_disks()
     ensures { (w : World) (h : History) (c : Case) → Facts w h → NothingIsStrange w → HandlesNamed (happens w c) }
+{}
+
+/// With the same premises, all limits hold in the world that any case leads to.
+pub fn limits_are_kept()
+    ensures { (w : World) (h : History) (c : Case) → Facts w h → NothingIsStrange w → Limits (happens w c) }
 {}

@@ -3,4 +3,4 @@
 
 mod laws;
 
-pub use laws::wiring_is_kept;
+pub use laws::{handles_are_of_disks, limits_are_kept, wiring_is_kept};
