@@ -1,5 +1,5 @@
 -- Each call of the host keeps that its records name an address or an event's context that fits a message.
-use Rattle.std.proofs.Common.{◌≡◌, ℕ, zero, suc, ◌+◌, ◌-◌, ◌<◌, ◌^◌, ◌==◌, ◌&&◌, if◌then◌else◌, Bool, true, false, List, [], ◌∷◌, take, Option, Some, None, set, refl}
+use Rattle.std.proofs.Common.{◌≡◌, ℕ, ◌-◌, ◌<◌, ◌^◌, ◌==◌, ◌&&◌, if◌then◌else◌, Bool, true, false, List, [], ◌∷◌, take, Option, Some, None, set, refl}
 use Rattle.std.specs.FinMap as finmap
 use Rattle.std.specs.Prelude.{All}
 use Rattle.std.specs.List.{fold, range_with_len}

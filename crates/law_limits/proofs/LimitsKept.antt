@@ -1,5 +1,5 @@
 -- All limits, over every case.
-use Rattle.std.proofs.Common.{◌≡◌, ℕ, zero, suc, ◌+◌, ◌-◌, ◌*◌, ◌/◌, ◌^◌, ◌<◌, ◌≤◌, ◌||◌, ◌⊎◌, inl, inr, nat_le, if◌then◌else◌, Bool, true, false, List, [], ◌∷◌, ◌++◌, map, get_or, length, position, slice_index_or, slice_set, Option, Some, None, option_map, eqb-true, mod-lt, refl, ap, sym, ◌∙◌, subst, arith}
+use Rattle.std.proofs.Common.{◌≡◌, ℕ, zero, suc, ◌+◌, ◌-◌, ◌*◌, ◌/◌, ◌^◌, ◌<◌, ◌||◌, ◌⊎◌, inl, inr, nat_le, if◌then◌else◌, Bool, true, false, List, [], ◌∷◌, ◌++◌, map, get_or, position, slice_index_or, slice_set, Option, Some, None, option_map, eqb-true, mod-lt, refl, ap, sym, ◌∙◌, subst, arith}
 use Rattle.std.specs.Prelude.{All}
 use Rattle.std.specs.Int.{byte_at}
 use Rattle.std.proofs.lemmas.List.Elements.{All-cons, All-head, All-nil, All-tail}
@@ -9,7 +9,7 @@ use Rattle.event_msgs.specs.Topology.{topology_layout, topology_values}
 use Rattle.event_msgs.specs.TopologyEntry.{topology_entry_layout, topology_entry_values}
 use Rattle.mpi_layout.specs.Rows.{field}
 use Rattle.smid_pool.specs.Pool.{Free, Open, Parked, Slot, record_of}
-use Rattle.removal.specs.Handles.{IsHandle, ready_handle}
+use Rattle.removal.specs.Handles.{IsHandle}
 use Rattle.removal.specs.Phases.{is_ready_at}
 use Rattle.removal.specs.declared.phase.Phase.{Phase}
 use Rattle.removal.specs.declared.phase.Phase.TheVariants as phase
@@ -28,7 +28,6 @@ use Rattle.mpt_rules.specs.declared.request.Request.{Request}
 use Rattle.mpt_rules.specs.declared.request.Request.TheVariants as request
 use Rattle.mpt_rules.specs.Host.Replies.{heard_of, request_of}
 use Rattle.mpt_rules.specs.Host.Takes.{hears_up, is_starting}
-use Rattle.mpt_rules.specs.Host.Inputs.{looks, stops}
 use Rattle.mpi_doorbell.specs.HostSteps.{look_at_doorbell}
 use Rattle.mpt_rules.specs.declared.stage.Stage.TheVariants as stage
 use Rattle.mpt_rules.specs.Ioc.Tables as table
@@ -41,7 +40,7 @@ use Rattle.law_facts.specs.Facts.{Facts}
 use Rattle.law_facts.specs.Handles.{BindingIs, ReadyIsBound, phase_of}
 use Rattle.law_facts.specs.History.{History}
 use Rattle.law_facts.specs.Limits.{BindingFits, IsAddress, Limits, RecordFits, WaitFits}
-use Rattle.law_facts.specs.Messages.{AnswersBy, IsEvent, SaidIs, event_like}
+use Rattle.law_facts.specs.Messages.{AnswersBy, SaidIs, event_like}
 use Rattle.law_facts.specs.Words.{slot}
 use Rattle.law_moves.proofs.Cases.{Owes, kept}
 use Rattle.law_limits.specs.HandlesNamed.{NamesDiskHandle}
