@@ -28,7 +28,7 @@ module _ (r s : DoorRegisters) (e : core r ≡ core s) where
 
   module _ (q : ℕ) (a : HostAsk) (d : HostDoor) where
     unopened_alike : IsUnopened a d r → IsUnopened a d s
-    unopened_alike p = record { unsent = p.unsent; reply = p.reply; handshake = sym (ap (λ (c : DoorRegisters). c.handshake) e) ∙ p.handshake; unasked = unasked_alike p.unasked }
+    unopened_alike p = record { unsent = p.unsent; reply = p.reply; handshake = sym (ap (λ (c : DoorRegisters). c.handshake) e) ∙ p.handshake; status = sym (ap (λ (c : DoorRegisters). c.ioc2sys) e) ∙ p.status; unasked = unasked_alike p.unasked }
 
     sending_alike : IsSending a d r → IsSending a d s
     sending_alike p = record { reply = p.reply; collected = subst (Collected (asked_bytes a) d.unsent) (ap (λ (c : DoorRegisters). c.handshake) e) p.collected; unasked = unasked_alike p.unasked }

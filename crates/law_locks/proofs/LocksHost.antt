@@ -112,9 +112,9 @@ pub record IsIdleDoor (r : DoorRegisters) : Type 0 where
   pub status : r.ioc2sys ≡ false
 
 -- a handshake that was over
-record IsEndedSo (a : HostAsk) (r : DoorRegisters) : Type 0 where
-  idle : IsIdleDoor r
-  answered : HasAnswered a r
+pub record IsEndedSo (a : HostAsk) (r : DoorRegisters) : Type 0 where
+  pub idle : IsIdleDoor r
+  pub answered : HasAnswered a r
 
 or_last : (a c d f : Bool) → f ≡ true → (a || (c || (d || f))) ≡ true
 or_last true c d f e = refl
@@ -147,13 +147,13 @@ module _ (w : World) (h : History) (b : Before w h) (s : StartsStand w) (l : Han
   abbrev A : Ioc
   A = written_ahead w.ioc (down_line w)
 
-  counted : host_queue_count w.host ≡ queues_of w
+  pub counted : host_queue_count w.host ≡ queues_of w
   counted = sym b.facts.flights.sizes.lanes
 
-  few : queues_of w ≤ 8
+  pub few : queues_of w ≤ 8
   few = subst (λ n. n ≤ 8) counted b.facts.flights.sizes.few_queues
 
-  some : 1 ≤ queues_of w
+  pub some : 1 ≤ queues_of w
   some = subst (λ n. 1 ≤ n) counted b.facts.flights.sizes.some_queue
 
   -- the controller ahead has all reply queues
@@ -171,7 +171,7 @@ module _ (w : World) (h : History) (b : Before w h) (s : StartsStand w) (l : Han
   pub rest : rests_at_door w ≡ true → Rests
   rest e = record { handshake = here.handshake e; status = here.status e }
 
-  unread_machine : w.host.reading ≡ false → w.host.machine ≡ None
+  pub unread_machine : w.host.reading ≡ false → w.host.machine ≡ None
   unread_machine r = by_machine w.host.machine refl
     where
       by_machine : (o : Option HostDoor) → w.host.machine ≡ o → o ≡ None
@@ -179,21 +179,21 @@ module _ (w : World) (h : History) (b : Before w h) (s : StartsStand w) (l : Han
       by_machine (Some d) e = contrary w.host.reading r (k.one_read.awaited (ap is_some e))
 
   -- without a machine, but for a reset that waits
-  rest_unmanned : w.host.machine ≡ None → waits_to_reset w ≡ false → rests_at_door w ≡ true
+  pub rest_unmanned : w.host.machine ≡ None → waits_to_reset w ≡ false → rests_at_door w ≡ true
   rest_unmanned n u =
       or_first (is_none w.host.machine && not (waits_to_reset w)) (is_look w.host.stage) (in_begun w) (is_unit w.host.stage)
       (ap (λ (o : Option HostDoor). is_none o && not (waits_to_reset w)) n ∙ ap not u)
 
-  no_waits : is_resetting w.host.mode ≡ false → waits_to_reset w ≡ false
+  pub no_waits : is_resetting w.host.mode ≡ false → waits_to_reset w ≡ false
   no_waits m = ap (λ c. (c && not (w.host.asked == w.ioc.generation)) && (w.host.reading && is_none w.host.machine)) m
 
-  rest_look : is_look w.host.stage ≡ true → rests_at_door w ≡ true
+  pub rest_look : is_look w.host.stage ≡ true → rests_at_door w ≡ true
   rest_look e = or_second (is_none w.host.machine && not (waits_to_reset w)) (is_look w.host.stage) (in_begun w) (is_unit w.host.stage) e
 
   pub rest_begun : in_begun w ≡ true → rests_at_door w ≡ true
   rest_begun e = or_third (is_none w.host.machine && not (waits_to_reset w)) (is_look w.host.stage) (in_begun w) (is_unit w.host.stage) e
 
-  rest_unit : is_unit w.host.stage ≡ true → rests_at_door w ≡ true
+  pub rest_unit : is_unit w.host.stage ≡ true → rests_at_door w ≡ true
   rest_unit e = or_last (is_none w.host.machine && not (waits_to_reset w)) (is_look w.host.stage) (in_begun w) (is_unit w.host.stage) e
 
   -- a host that is up has no handshake
@@ -267,7 +267,7 @@ module _ (w : World) (h : History) (b : Before w h) (s : StartsStand w) (l : Han
     T = next_turn d (Some v)
 
     -- of a handshake
-    talks : (a : HostAsk) → ask_of_stage (queues_of w) w.host.stage ≡ Some a → TurnGoes (queues_of w) a A (next_turn d (Some v))
+    pub talks : (a : HostAsk) → ask_of_stage (queues_of w) w.host.stage ≡ Some a → TurnGoes (queues_of w) a A (next_turn d (Some v))
     talks a e =
         let m : w.host.mode ≡ state.Starting = asked_starting w (queues_of w) w.host.stage a e hv.in_mode in
         let val : v ≡ register_value (door_ahead w) (register_of y) = l.value d y v hv.machine_is (ap is_resetting m) hv.at (value_comes w d y v hv) in
@@ -277,7 +277,7 @@ module _ (w : World) (h : History) (b : Before w h) (s : StartsStand w) (l : Han
     quiet_at z e n = subst (λ q. how_many is_bell_write (TurnAt d v q).writes ≡ 0) (sym (hv.at ∙ ap door_stage.Awaits e)) n
 
     -- any other turn leaves what the door has of a handshake
-    quiet : (z : Stage) → ask_of_stage (queues_of w) z ≡ None → ReadsFor z y → how_many is_bell_write (next_turn d (Some v)).writes ≡ 0
+    pub quiet : (z : Stage) → ask_of_stage (queues_of w) z ≡ None → ReadsFor z y → how_many is_bell_write (next_turn d (Some v)).writes ≡ 0
     quiet stage.DiagnosticReset n (inl r) = quiet_at reading.Unlocked r (at_unlocked d v)
     quiet stage.DiagnosticReset n (inr (inl r)) = quiet_at reading.ResetOver r (at_over d v)
     quiet stage.DiagnosticReset n (inr (inr r)) = quiet_at (reading.State kind.Diagnostic) r (at_state d v kind.Diagnostic)
@@ -291,7 +291,7 @@ module _ (w : World) (h : History) (b : Before w h) (s : StartsStand w) (l : Han
     quiet stage.PortFacts n r = absurd (cc)
     quiet stage.Init n r = absurd (cc)
 
-    reset_unasked : (z : Stage) → is_reset_stage z ≡ true → ask_of_stage (queues_of w) z ≡ None
+    pub reset_unasked : (z : Stage) → is_reset_stage z ≡ true → ask_of_stage (queues_of w) z ≡ None
     reset_unasked stage.DiagnosticReset e = refl
     reset_unasked stage.UnitReset e = refl
     reset_unasked stage.Idle e = refl
@@ -309,7 +309,7 @@ module _ (w : World) (h : History) (b : Before w h) (s : StartsStand w) (l : Han
         record { handshake = u.handshake ∙ p.handshake; status = u.status ∙ p.status }
 
     -- a handshake that is over
-    over_so : (a : HostAsk) → ask_of_stage (queues_of w) w.host.stage ≡ Some a → IsOver (next_turn d (Some v)).step → IsEndedSo a (written_ahead A (next_turn d (Some v)).writes).door
+    pub over_so : (a : HostAsk) → ask_of_stage (queues_of w) w.host.stage ≡ Some a → IsOver (next_turn d (Some v)).step → IsEndedSo a (written_ahead A (next_turn d (Some v)).writes).door
     over_so a e o = by_step (next_turn d (Some v)).step (talks a e) o
       where
         by_step : (t : DoorStep) → Goes (queues_of w) a (next_turn d (Some v)).door (written_ahead A (next_turn d (Some v)).writes).door t → IsOver t → IsEndedSo a (written_ahead A (next_turn d (Some v)).writes).door
@@ -373,11 +373,11 @@ module _ (w : World) (h : History) (b : Before w h) (s : StartsStand w) (l : Han
           idle = let p = rest r in idle_as _ _ line (record { handshake = p.handshake; status = p.status })
 
       -- a handshake, with a controller that waits for it
-      begun_talk : (x base : Host) (z : Stage) (a : HostAsk) → x ≡ door.begins base z (asks_with a) → ask_of_stage (queues_of w) z ≡ Some a → is_resetting base.mode ≡ false → (i : Ioc) → written_ahead w.ioc (w.down ++ base.out) ≡ i → i.door.handshake ≡ Idle → IsUnasked i.door → OnHost x
+      begun_talk : (x base : Host) (z : Stage) (a : HostAsk) → x ≡ door.begins base z (asks_with a) → ask_of_stage (queues_of w) z ≡ Some a → is_resetting base.mode ≡ false → (i : Ioc) → written_ahead w.ioc (w.down ++ base.out) ≡ i → IsIdleDoor i.door → IsUnasked i.door → OnHost x
       begun_talk x base z a f e m i g p u =
           subst OnHost (sym (f ∙ ap (door.puts_turn (record base { stage = z })) (talk_turn (asked_bytes a))))
           (record {
-            shakes = manned (queues_of w) door_at base.mode z ahead.door coming a reading.Used e refl (record { unsent = refl; reply = refl; handshake = ap (λ (y : Ioc). y.door.handshake) line ∙ p; unasked = record { state = ap (λ (y : Ioc). state_of y) line ∙ u.state; who_init = ap (λ (y : Ioc). y.door.who_init) line ∙ u.who_init } }) none;
+            shakes = manned (queues_of w) door_at base.mode z ahead.door coming a reading.Used e refl (record { unsent = refl; reply = refl; handshake = ap (λ (y : Ioc). y.door.handshake) line ∙ p.handshake; status = ap (λ (y : Ioc). y.door.ioc2sys) line ∙ p.status; unasked = record { state = ap (λ (y : Ioc). state_of y) line ∙ u.state; who_init = ap (λ (y : Ioc). y.door.who_init) line ∙ u.who_init } }) none;
             handshake = λ c. contrary _ unrested c;
             status = λ c. contrary _ unrested c;
           })
@@ -421,7 +421,7 @@ module _ (w : World) (h : History) (b : Before w h) (s : StartsStand w) (l : Han
       let d = doorless_ahead A ws (Rattle.law_starts.proofs.Unheld.unheld_ahead w.ioc (down_line w) s.nothing_holds.writes (record { hold = s.nothing_holds.hold; waits = s.nothing_holds.waits })).waits (omega (arith, f, z)) in
       record { state = d.state ∙ u.state; who_init = d.who_init ∙ u.who_init }
 
-  off_unmanned : w.host.mode ≡ state.Off → w.host.machine ≡ None
+  pub off_unmanned : w.host.mode ≡ state.Off → w.host.machine ≡ None
   off_unmanned m = unread_machine (off_reading w.host.reading refl)
     where
       off_reading : (c : Bool) → w.host.reading ≡ c → c ≡ false
@@ -434,14 +434,14 @@ module _ (w : World) (h : History) (b : Before w h) (s : StartsStand w) (l : Han
 
     next : (d : HostDoor) (y : Reading) (v : ℕ) (hv : HasValue w d y v) → IsOver (next_turn d (Some v)).step → (p z : Stage) (a : HostAsk) → w.host.stage ≡ p → NextShake w p z a → IsInMode w p → x ≡ door.begins (at.over w d v) z (asks_with a) → Goal
     next d y v hv o _ _ _ e FactsNext i f =
-        begun_talk coming none x (at.over w d v) stage.Facts ask.Facts f refl (ap is_resetting i) (written_ahead A (next_turn d (Some v)).writes) (behind (next_turn d (Some v)).writes) (stays_idle d y v hv (ap (ask_of_stage (queues_of w)) e) (rest_look (ap is_look e))).handshake
+        begun_talk coming none x (at.over w d v) stage.Facts ask.Facts f refl (ap is_resetting i) (written_ahead A (next_turn d (Some v)).writes) (behind (next_turn d (Some v)).writes) (stays_idle d y v hv (ap (ask_of_stage (queues_of w)) e) (rest_look (ap is_look e)))
         (unasked_behind (next_turn d (Some v)).writes (quiet d y v hv w.host.stage (ap (ask_of_stage (queues_of w)) e) hv.reads_for) (look_unasked e))
     next d y v hv o _ _ _ e PortFactsNext i f =
         let g = over_so d y v hv ask.Facts (ap (ask_of_stage (queues_of w)) e) o in
-        begun_talk coming none x (at.over w d v) stage.PortFacts ask.PortFacts f refl (ap is_resetting i) (written_ahead A (next_turn d (Some v)).writes) (behind (next_turn d (Some v)).writes) g.idle.handshake (record { state = g.answered.state; who_init = g.answered.who_init })
+        begun_talk coming none x (at.over w d v) stage.PortFacts ask.PortFacts f refl (ap is_resetting i) (written_ahead A (next_turn d (Some v)).writes) (behind (next_turn d (Some v)).writes) g.idle (record { state = g.answered.state; who_init = g.answered.who_init })
     next d y v hv o _ _ _ e InitNext i f =
         let g = over_so d y v hv ask.PortFacts (ap (ask_of_stage (queues_of w)) e) o in
-        begun_talk coming none x (at.over w d v) stage.Init (ask.Init (host_queue_count w.host)) f (ap (λ n. let c : Option HostAsk = Some (ask.Init n) in c) (sym counted)) (ap is_resetting i) (written_ahead A (next_turn d (Some v)).writes) (behind (next_turn d (Some v)).writes) g.idle.handshake
+        begun_talk coming none x (at.over w d v) stage.Init (ask.Init (host_queue_count w.host)) f (ap (λ n. let c : Option HostAsk = Some (ask.Init n) in c) (sym counted)) (ap is_resetting i) (written_ahead A (next_turn d (Some v)).writes) (behind (next_turn d (Some v)).writes) g.idle
         (record { state = g.answered.state; who_init = g.answered.who_init })
 
     pub begun : (base : Host) (z : Stage) (d : HostDoor) (t : Bool) → Beginning w base z d t → x ≡ door.begins base z d → Goal
@@ -465,12 +465,12 @@ module _ (w : World) (h : History) (b : Before w h) (s : StartsStand w) (l : Han
     begun _ _ _ _ (Late z d MessageUnit e n a v items u r) f = begun_unit coming none x (record w.host { reading = false }) f refl (rest_unit (ap is_unit e))
     begun _ _ _ _ (Marked queue m r) f =
         let lk = (k.value_is_last.ready r).linked in
-        begun_talk coming none x (resets.renewed (record w.host { marks = slice_set w.host.marks queue true })) stage.Facts ask.Facts f refl refl A refl (rest (rest_begun (and_false (in_begun w) (is_ready (state_of w.ioc)) lk).0)).handshake (linked_unasked lk)
+        begun_talk coming none x (resets.renewed (record w.host { marks = slice_set w.host.marks queue true })) stage.Facts ask.Facts f refl refl A refl (rest (rest_begun (and_false (in_begun w) (is_ready (state_of w.ioc)) lk).0)) (linked_unasked lk)
     begun _ _ _ _ (Renewed d y v hv o r) f =
         let lk = over_linked w h b d y v hv o r in
         let n = reset_unasked d y v hv w.host.stage r in
         begun_talk coming none x (resets.renewed (record (at.over w d v) { door_ready = true })) stage.Facts ask.Facts f refl refl (written_ahead A (next_turn d (Some v)).writes) (behind (next_turn d (Some v)).writes)
-        (stays_idle d y v hv n (rest_begun (and_false (in_begun w) (is_ready (state_of w.ioc)) lk).0)).handshake (unasked_behind (next_turn d (Some v)).writes (quiet d y v hv w.host.stage n hv.reads_for) (linked_unasked lk))
+        (stays_idle d y v hv n (rest_begun (and_false (in_begun w) (is_ready (state_of w.ioc)) lk).0)) (unasked_behind (next_turn d (Some v)).writes (quiet d y v hv w.host.stage n hv.reads_for) (linked_unasked lk))
     begun _ _ _ _ (Next d y v hv o z a q) f = next d y v hv o w.host.stage z a refl q hv.in_mode f
 
     -- ---- a machine goes on

@@ -299,7 +299,7 @@ module _ (q : ℕ) (few : q ≤ 8) (some : 1 ≤ q) (a : HostAsk) (g : AsksFor q
   used : v ≡ register_value i.door DOORBELL → IsUnopened a d i.door → Turned reading.Used
   used e p =
       let free : has v DOORBELL_USED ≡ false = ap (λ m. has m DOORBELL_USED) (e ∙ bell_is i.door ioc_state.Ready 0 Idle p.unasked.state p.unasked.who_init p.handshake) ∙ unused ioc_state.Ready 0 refl (omega arith) in
-      quietly_on reading.Used reading.LeftOver (record d { stage = Awaits reading.LeftOver }) HOST_INTERRUPT_STATUS (used_turn d v free) refl refl (record { unsent = p.unsent; reply = p.reply; handshake = p.handshake; unasked = p.unasked })
+      quietly_on reading.Used reading.LeftOver (record d { stage = Awaits reading.LeftOver }) HOST_INTERRUPT_STATUS (used_turn d v free) refl refl (record { unsent = p.unsent; reply = p.reply; handshake = p.handshake; status = p.status; unasked = p.unasked })
 
   left_over : v ≡ register_value i.door HOST_INTERRUPT_STATUS → IsUnopened a d i.door → Turned reading.LeftOver
   left_over e p = by_bit i.door.ioc2sys (ap (λ m. has m IOC2SYS_DB_STATUS) e ∙ interrupt_read i.door)

@@ -74,11 +74,12 @@ HeardOut said heard _ = ⊥
 
 -- ---- where the host stands
 
--- nothing was written
+-- nothing was written, and no interrupt is left over
 pub record IsUnopened (a : HostAsk) (host : HostDoor) (door : DoorRegisters) : Type 0 where
   pub unsent : host.unsent ≡ asked_bytes a
   pub reply : host.reply ≡ []
   pub handshake : door.handshake ≡ Idle
+  pub status : door.ioc2sys ≡ false
   pub unasked : IsUnasked door
 
 -- dwords are still to be written
