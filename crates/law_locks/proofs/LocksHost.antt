@@ -197,7 +197,7 @@ module _ (w : World) (h : History) (b : Before w h) (s : StartsStand w) (l : Han
   rest_unit e = or_last (is_none w.host.machine && not (waits_to_reset w)) (is_look w.host.stage) (in_begun w) (is_unit w.host.stage) e
 
   -- a host that is up has no handshake
-  rest_up : w.host.mode ≡ state.Up → rests_at_door w ≡ true
+  pub rest_up : w.host.mode ≡ state.Up → rests_at_door w ≡ true
   rest_up m = by_machine w.host.machine refl
     where
       by_stage : (z : Stage) → w.host.stage ≡ z → IsInMode w z → is_look z ≡ true
@@ -254,7 +254,7 @@ module _ (w : World) (h : History) (b : Before w h) (s : StartsStand w) (l : Han
       let a : w.down ++ ((out ++ ws) ++ down.Read reg ∷ []) ≡ ((w.down ++ out) ++ ws) ++ down.Read reg ∷ [] = sym (append_assoc w.down (out ++ ws) (down.Read reg ∷ [])) ∙ ap (λ xs. xs ++ down.Read reg ∷ []) (sym (append_assoc w.down out ws)) in
       ap (written_ahead w.ioc) a ∙ (ahead-append w.ioc ((w.down ++ out) ++ ws) (down.Read reg ∷ []) ∙ (read_ahead (written_ahead w.ioc ((w.down ++ out) ++ ws)) reg ∙ ahead-append w.ioc (w.down ++ out) ws))
 
-  level : is_resetting w.host.mode ≡ false → ((w.host.asked + 1) % 2 ^ 32 == w.ioc.generation) ≡ false
+  pub level : is_resetting w.host.mode ≡ false → ((w.host.asked + 1) % 2 ^ 32 == w.ioc.generation) ≡ false
   level m =
       let p = phased_of w k.phase_table in
       let lev = level_phase w.host.mode w.host.asked w.ioc.generation (state_of w.ioc) p m in

@@ -94,7 +94,7 @@ module _ (d : HostDoor) (v : ℕ) where
   TurnOf s = turn_from 8 s.door s.step
 
   -- the Doorbell isn't used
-  used_turn : has v DOORBELL_USED ≡ false → TurnAt d v (Awaits reading.Used) ≡ record { writes = []; door = record d { stage = Awaits reading.LeftOver }; step = step.Read HOST_INTERRUPT_STATUS }
+  pub used_turn : has v DOORBELL_USED ≡ false → TurnAt d v (Awaits reading.Used) ≡ record { writes = []; door = record d { stage = Awaits reading.LeftOver }; step = step.Read HOST_INTERRUPT_STATUS }
   unfolding turn_from
   used_turn e = ap (λ b. TurnOf (if b then refuses d 1 v else reads d reading.LeftOver)) e
 
@@ -104,16 +104,16 @@ module _ (d : HostDoor) (v : ℕ) where
   unfolding turn_from
   left_turn e = ap (λ b. TurnOf (if b then writes d Opens HOST_INTERRUPT_STATUS 0 else opens d)) e
 
-  none_left_turn : has v IOC2SYS_DB_STATUS ≡ false → TurnAt d v (Awaits reading.LeftOver) ≡ record { writes = down.Write DOORBELL (opening_dword d.unsent) ∷ []; door = record d { stage = Awaits reading.Opened }; step = step.Read HOST_INTERRUPT_STATUS }
+  pub none_left_turn : has v IOC2SYS_DB_STATUS ≡ false → TurnAt d v (Awaits reading.LeftOver) ≡ record { writes = down.Write DOORBELL (opening_dword d.unsent) ∷ []; door = record d { stage = Awaits reading.Opened }; step = step.Read HOST_INTERRUPT_STATUS }
   unfolding turn_from
   none_left_turn e = ap (λ b. TurnOf (if b then writes d Opens HOST_INTERRUPT_STATUS 0 else opens d)) e
 
-  opened_turn : has v IOC2SYS_DB_STATUS ≡ true → TurnAt d v (Awaits reading.Opened) ≡ record { writes = down.Write HOST_INTERRUPT_STATUS 0 ∷ []; door = record d { stage = Awaits reading.Taken }; step = step.Read HOST_INTERRUPT_STATUS }
+  pub opened_turn : has v IOC2SYS_DB_STATUS ≡ true → TurnAt d v (Awaits reading.Opened) ≡ record { writes = down.Write HOST_INTERRUPT_STATUS 0 ∷ []; door = record d { stage = Awaits reading.Taken }; step = step.Read HOST_INTERRUPT_STATUS }
   unfolding turn_from
   opened_turn e = ap (λ b. TurnOf (if b then writes d (Reads reading.Taken) HOST_INTERRUPT_STATUS 0 else reads d reading.Opened)) e
 
   -- the next dword
-  sent_turn : has v SYS2IOC_DB_STATUS ≡ false → (length d.unsent == 0) ≡ false
+  pub sent_turn : has v SYS2IOC_DB_STATUS ≡ false → (length d.unsent == 0) ≡ false
       → TurnAt d v (Awaits reading.Taken) ≡ record { writes = down.Write DOORBELL (little_number 4 d.unsent) ∷ []; door = record d { stage = Awaits reading.Taken; unsent = drop 4 d.unsent }; step = step.Read HOST_INTERRUPT_STATUS }
   unfolding turn_from
   sent_turn e f =
@@ -121,18 +121,18 @@ module _ (d : HostDoor) (v : ℕ) where
       ∙ ap (λ b. TurnOf (if b then reads d reading.News else writes (record d { unsent = drop 4 d.unsent }) (Reads reading.Taken) DOORBELL (little_number 4 d.unsent))) f
 
   -- all were sent
-  all_sent_turn : has v SYS2IOC_DB_STATUS ≡ false → (length d.unsent == 0) ≡ true → TurnAt d v (Awaits reading.Taken) ≡ record { writes = []; door = record d { stage = Awaits reading.News }; step = step.Read HOST_INTERRUPT_STATUS }
+  pub all_sent_turn : has v SYS2IOC_DB_STATUS ≡ false → (length d.unsent == 0) ≡ true → TurnAt d v (Awaits reading.Taken) ≡ record { writes = []; door = record d { stage = Awaits reading.News }; step = step.Read HOST_INTERRUPT_STATUS }
   unfolding turn_from
   all_sent_turn e f =
       ap (λ b. TurnOf (if b then reads d reading.Taken else sends d)) e
       ∙ ap (λ b. TurnOf (if b then reads d reading.News else writes (record d { unsent = drop 4 d.unsent }) (Reads reading.Taken) DOORBELL (little_number 4 d.unsent))) f
 
-  news_turn : has v IOC2SYS_DB_STATUS ≡ true → TurnAt d v (Awaits reading.News) ≡ record { writes = []; door = record d { stage = Awaits reading.Word }; step = step.Read DOORBELL }
+  pub news_turn : has v IOC2SYS_DB_STATUS ≡ true → TurnAt d v (Awaits reading.News) ≡ record { writes = []; door = record d { stage = Awaits reading.Word }; step = step.Read DOORBELL }
   unfolding turn_from
   news_turn e = ap (λ b. TurnOf (if b then reads d reading.Word else reads d reading.News)) e
 
   -- a word of the reply
-  word_turn : is_whole d.reply ≡ false → is_bad_length d.reply v ≡ false
+  pub word_turn : is_whole d.reply ≡ false → is_bad_length d.reply v ≡ false
       → TurnAt d v (Awaits reading.Word) ≡ record { writes = down.Write HOST_INTERRUPT_STATUS 0 ∷ []; door = record (with_word d v) { stage = Awaits reading.News }; step = step.Read HOST_INTERRUPT_STATUS }
   unfolding turn_from
   word_turn e f =
@@ -140,7 +140,7 @@ module _ (d : HostDoor) (v : ℕ) where
       ∙ ap (λ b. TurnOf (if b then refuses d 6 v else writes (with_word d v) (Reads reading.News) HOST_INTERRUPT_STATUS 0)) f
 
   -- its end
-  end_turn : is_whole d.reply ≡ true → has v DOORBELL_USED ≡ false
+  pub end_turn : is_whole d.reply ≡ true → has v DOORBELL_USED ≡ false
       → TurnAt d v (Awaits reading.Word) ≡ record { writes = down.Write HOST_INTERRUPT_STATUS 0 ∷ []; door = record d { stage = Ended }; step = step.Done (length d.reply) (padded d.reply) }
   unfolding turn_from
   end_turn e f =

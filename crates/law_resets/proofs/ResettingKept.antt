@@ -232,13 +232,13 @@ turn_mode h t = by_step t.step
     by_step (step.Done count bytes) = refl
     by_step (step.Refused at value) = refl
 
-begins_mode : (h : Host) (s : Stage) (d : HostDoor) → (door.begins h s d).mode ≡ h.mode
+pub begins_mode : (h : Host) (s : Stage) (d : HostDoor) → (door.begins h s d).mode ≡ h.mode
 begins_mode h s d = turn_mode (record h { stage = s }) (next_turn d None)
 
 handshake_mode : (h : Host) (s : Stage) (a : HostAsk) → (door.begins_handshake h s a).mode ≡ h.mode
 handshake_mode h s a = begins_mode h s (handshake_of_message (message_bytes (host_message a)))
 
-rise_mode : (a c : HostState) → Rises false a c → c ≡ a
+pub rise_mode : (a c : HostState) → Rises false a c → c ≡ a
 rise_mode a c (Stays e) = e
 rise_mode a c (ComesUp u r e) = absurd (cc)
 
@@ -322,7 +322,7 @@ module _ (h : Host) (none : is_resetting h.mode ≡ true → h.wait_high ≡ [])
   replied queue d f page sense false m = rise_same h.mode _ (speaks.says_back (speaks.is_enable (request_of h (smid_in d))) h m queue d f page sense refl).rises m
   replied queue d f page sense true m = ap is_resetting (rise_mode h.mode _ (speaks.hands_back h m (none m) speaks.is_handed_back (λ v. refl) (λ e a i. refl) queue d f page sense).rises)
 
-  tells_mode : (queue : ℕ) (x : Up) → TellsMode (is_resetting h.mode) (hears_up h queue x)
+  pub tells_mode : (queue : ℕ) (x : Up) → TellsMode (is_resetting h.mode) (hears_up h queue x)
   tells_mode queue (upward.Value value) = of_value (record h { reading = false }) h.machine value
   tells_mode queue (upward.Reply d f page sense) =
       GoesOn (word_reply_to (takes_entry (with_frame_heard h d f) queue) (smid_in d) (request_of h (smid_in d)) (Rattle.mpt_rules.specs.Host.Replies.heard_of d f page sense)) (replied queue d f page sense (is_resetting h.mode) refl)
@@ -331,7 +331,7 @@ module _ (h : Host) (none : is_resetting h.mode ≡ true → h.wait_high ≡ [])
 
 -- ---- inputs
 
-word_submit : (host : Host) (n address : ℕ) (command : Command) (i : Input) → IsNoReset (entry.Given i) → (f : Rattle.mpt_trace.specs.declared.refusal.Refusal.Refusal → Entry) → ((c : Rattle.mpt_trace.specs.declared.refusal.Refusal.Refusal) → IsNoReset (f c)) → (used mode : Bool) (handle : Option ℕ) (fits : Bool) (smid : Option ℕ) →
+pub word_submit : (host : Host) (n address : ℕ) (command : Command) (i : Input) → IsNoReset (entry.Given i) → (f : Rattle.mpt_trace.specs.declared.refusal.Refusal.Refusal → Entry) → ((c : Rattle.mpt_trace.specs.declared.refusal.Refusal.Refusal) → IsNoReset (f c)) → (used mode : Bool) (handle : Option ℕ) (fits : Bool) (smid : Option ℕ) →
     EachEntry IsNoReset (by_result i f (Rattle.mpt_rules.proofs.HostCalls.submits_by host n address command used mode handle fits smid)).entries
 word_submit host n address command i g f h true mode handle fits smid = (g, (h _, tt))
 word_submit host n address command i g f h false false handle fits smid = (g, (h _, tt))
@@ -340,14 +340,14 @@ word_submit host n address command i g f h false true (Some x) false smid = (g, 
 word_submit host n address command i g f h false true (Some x) true None = (g, (h _, tt))
 word_submit host n address command i g f h false true (Some x) true (Some s) = (g, (tt, tt))
 
-word_abort : (host : Host) (n : ℕ) (b : Bool) (cmd : Option Cmd) (there o : Option ℕ) → EachEntry IsNoReset (by_result (input.Abort n) (entry.Refuse (Rattle.mpt_trace.specs.declared.refusal.RefusedCall.TheVariants.Abort n)) (Rattle.mpt_rules.proofs.HostCalls.aborts_by host n b cmd there o)).entries
+pub word_abort : (host : Host) (n : ℕ) (b : Bool) (cmd : Option Cmd) (there o : Option ℕ) → EachEntry IsNoReset (by_result (input.Abort n) (entry.Refuse (Rattle.mpt_trace.specs.declared.refusal.RefusedCall.TheVariants.Abort n)) (Rattle.mpt_rules.proofs.HostCalls.aborts_by host n b cmd there o)).entries
 word_abort host n false cmd there o = (tt, (tt, tt))
 word_abort host n true None there o = (tt, (tt, tt))
 word_abort host n true (Some cmd) (Some x) o = (tt, (tt, tt))
 word_abort host n true (Some cmd) None None = (tt, (tt, tt))
 word_abort host n true (Some cmd) None (Some s) = (tt, tt)
 
-word_target : (host : Host) (address : ℕ) (b : Bool) (handle o : Option ℕ) → EachEntry IsNoReset (by_result (input.TargetReset address) (entry.Refuse (Rattle.mpt_trace.specs.declared.refusal.RefusedCall.TheVariants.TargetReset address)) (Rattle.mpt_rules.proofs.HostCalls.resets_target_by host address b handle o)).entries
+pub word_target : (host : Host) (address : ℕ) (b : Bool) (handle o : Option ℕ) → EachEntry IsNoReset (by_result (input.TargetReset address) (entry.Refuse (Rattle.mpt_trace.specs.declared.refusal.RefusedCall.TheVariants.TargetReset address)) (Rattle.mpt_rules.proofs.HostCalls.resets_target_by host address b handle o)).entries
 word_target host address false handle o = (tt, (tt, tt))
 word_target host address true None o = (tt, (tt, tt))
 word_target host address true (Some x) None = (tt, (tt, tt))
