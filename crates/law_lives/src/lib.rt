@@ -1,0 +1,8 @@
+//! Laws of the lives of handles. The functions do nothing: what their contracts say is all that they are for.
+#![tactic(auto)]
+
+mod laws;
+
+pub use laws::phases_are_kept;
+pub use laws::bindings_are_kept;
+pub use laws::lives_are_kept;
