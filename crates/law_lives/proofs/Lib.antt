@@ -1,3 +1,3 @@
-mod Standing
+pub mod Standing
 pub mod HostDoes
 pub mod Lives

@@ -1,0 +1,22 @@
+//! The laws.
+ghost use Rattle.mpt_wire.specs.Handles.Removals.{UnbindAsks, removals_next};
+ghost use Rattle.mpt_wire.specs.Walks.Passes.{Passes};
+ghost use Rattle.mpt_rules.specs.Law.{NothingIsStrange};
+ghost use Rattle.mpt_rules.specs.World.Cases.{Case, entries, happens};
+ghost use Rattle.mpt_rules.specs.World.State.{World};
+ghost use Rattle.law_facts.specs.Facts.{Facts};
+ghost use Rattle.law_facts.specs.History.{History, history_after};
+ghost use Rattle.law_messages.specs.Numbers.{AbortsAreAccepted};
+ghost use Rattle.law_places.specs.Further.{VectorsFit};
+ghost use Rattle.law_removals.specs.Removing.{RemovalsKnown};
+
+/// Where all facts hold of a world, nothing on its way is strange to its host, each open abort is of a number that was accepted and no IOC Init asked for
+/// more reply queues than there are, the rule of removals knows each remove device that is queued, in the world that any case leads to.
+pub fn removals_are_known()
+    ensures { (w : World) (h : History) (c : Case) → Facts w h → NothingIsStrange w → AbortsAreAccepted w → VectorsFit w → RemovalsKnown (happens w c) (history_after h (entries w c)) }
+{}
+
+/// Where all facts hold of a world and nothing on its way is strange to its host, each handle that a case frees is that of a remove device which was taken and isn't answered.
+pub fn unbinds_pass()
+    ensures { (w : World) (h : History) (c : Case) → Facts w h → NothingIsStrange w → Passes removals_next UnbindAsks h.removals (entries w c) }
+{}

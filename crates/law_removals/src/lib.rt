@@ -1,0 +1,7 @@
+//! Laws of the removal of handles. The functions do nothing: what their contracts say is all that they are for.
+#![tactic(auto)]
+
+mod laws;
+
+pub use laws::removals_are_known;
+pub use laws::unbinds_pass;
