@@ -1,0 +1,4 @@
+pub mod PlugsTold
+pub mod Stays
+pub mod Working
+pub mod HostPosts
