@@ -94,7 +94,7 @@ module _ (s : ℕ) where
       by_key zero = refl
       by_key (suc j) = refl
 
-  by_same : (i k : Ioc) → k.normal ≡ i.normal → k.requests ≡ i.requests → working k ≤ working i
+  pub by_same : (i k : Ioc) → k.normal ≡ i.normal → k.requests ≡ i.requests → working k ≤ working i
   by_same i k n r =
       let a = ap (queued_count s) n in
       let b = request_asked k in let c = request_asked i in let d = ap (λ rs. asked rs s) r in
