@@ -9,6 +9,7 @@ use Rattle.scsi_disk.specs.Command.{fits}
 use Rattle.scsi_disk.specs.declared.scsi_result.ScsiResult.{ScsiResult}
 use Rattle.smid_pool.specs.Pool.{Open, all_free, is_open}
 use Rattle.smid_pool.specs.declared.class.Class.TheVariants as class
+use Rattle.mpt_wire.specs.Machine.Causes.{is_up}
 use Rattle.mpt_wire.specs.Machine.State.{OpenRequest}
 use Rattle.mpt_trace.specs.Command.{command_named}
 use Rattle.mpt_trace.specs.declared.command_form.CommandForm.{CommandForm}
@@ -44,6 +45,7 @@ module _ (w : World) (h : History) where
 
   -- what a submission is accepted by
   pub record Accepted (x : Host) (k : History) (n a s handle plug : ℕ) (form : CommandForm) : Type 0 where
+    pub up : is_up w.host.mode ≡ true
     pub fresh : finset.contains w.host.accepted n ≡ false
     pub least : IsLeast class.ScsiIo w.host.pool s
     pub handled : ready_handle w.host.phases a ≡ Some handle

@@ -708,7 +708,7 @@ module _ (w : World) (h : History) (b : Before w h) where
             let o = opens r q in
             let g = asked.submitted w h f k n a x s (command_named form) aborts e (l s refl) r (ap (λ m. finmap.get m n) q ∙ get_inserted h.machine.requests n r) refl (freshly k 0 n (start k 0 o none)) in (
               walked k 0 o none (Some n) (inputs.with_accepted w.host n a (command_named form) x s) g,
-              Accepts n a s x z.0 form (record { fresh = e; least = l s refl; handled = p; ready = z.1; fit = i; host = refl; told = refl; follows = record { queues = g.queues; slots = g.slots; cmds = g.agree; opens = o } }),
+              Accepts n a s x z.0 form (record { up = u; fresh = e; least = l s refl; handled = p; ready = z.1; fit = i; host = refl; told = refl; follows = record { queues = g.queues; slots = g.slots; cmds = g.agree; opens = o } }),
             )
           where
             opens : (r : OpenRequest) → (history_after h (entry.Given (input.Submit n a form) ∷ entry.Accept n a s ∷ [])).machine.requests ≡ finmap.insert h.machine.requests n r → OpensFollow (history_after h (entry.Given (input.Submit n a form) ∷ entry.Accept n a s ∷ [])) 0

@@ -3,3 +3,8 @@ pub mod Stays
 pub mod Working
 pub mod HostPosts
 pub mod Under
+pub mod PostKinds
+pub mod HostAccepts
+pub mod BoundKept
+pub mod Posted
+pub mod AimedKept

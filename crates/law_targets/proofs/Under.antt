@@ -36,7 +36,7 @@ use Rattle.mpt_rules.specs.Host.Returns.{after_sent}
 use Rattle.mpt_rules.specs.Host.Takes.{hears_up, looks, stops}
 use Rattle.mpt_rules.specs.Ioc.Parts.{Ioc}
 use Rattle.mpt_rules.specs.Ioc.Steps as step
-use Rattle.mpt_rules.specs.Ioc.Tables.{is_post_of, is_unbound}
+use Rattle.mpt_rules.specs.Ioc.Tables.{is_post_of, is_unbound, request_at}
 use Rattle.mpt_rules.specs.Ioc.Takes as adapter
 use Rattle.mpt_rules.specs.Law.{NothingIsStrange}
 use Rattle.mpt_rules.specs.World.Cases.{Case, entries, happens}
@@ -51,7 +51,7 @@ use Rattle.law_facts.specs.Facts.{Facts}
 use Rattle.law_facts.specs.Handles.{BindingIs}
 use Rattle.law_facts.specs.History.{History}
 use Rattle.law_facts.specs.Messages.{PostIs, PostIsRecord}
-use Rattle.law_facts.specs.Words.{others, slot}
+use Rattle.law_facts.specs.Words.{is_command, others, slot}
 use Rattle.law_handles.proofs.HostSays.{told_input}
 use Rattle.law_handles.proofs.HostSilent.{quiet, quiet_taken}
 use Rattle.law_handles.proofs.Tables.{at, binding_is}
@@ -149,6 +149,29 @@ module _ (w : World) (h : History) (f : Facts w h) (plain : NothingIsStrange w) 
   named : (p : Post) → PostIsRecord w h p → 1 ≤ smid_in p.descriptor
   named p r = (named_post w h f p (smid_in p.descriptor) r).0
 
+  -- ---- work steps
+
+  pub high_works : (s : ℕ) (p : Post) (rest : List Post) → w.ioc.high ≡ p ∷ rest → working s (step.works_on (record w.ioc { high = rest }) p).part ≤ working s w.ioc
+  high_works s p rest e = by_goes (work_goes s (record w.ioc { high = rest }) p (named p (recorded_high p rest e)))
+    where
+      by_goes : Rattle.law_targets.proofs.Working.Goes s (record w.ioc { high = rest }) p (named p (recorded_high p rest e)) (step.works_on (record w.ioc { high = rest }) p) → working s (step.works_on (record w.ioc { high = rest }) p).part ≤ working s w.ioc
+      by_goes (inl l) = let a = by_same s w.ioc (record w.ioc { high = rest }) refl refl in omega (arith, l, a)
+      by_goes (inr k) = high_is post.ScsiIo p rest e k.0 scsi_low
+
+  pub normal_works : (s : ℕ) (p : Post) (rest : List Post) → w.ioc.normal ≡ p ∷ rest → working s (step.works_on (record w.ioc { normal = rest }) p).part ≤ working s w.ioc
+  normal_works s p rest e = by_goes (work_goes s (record w.ioc { normal = rest }) p (named p (recorded_normal p rest e)))
+    where
+      same_request : (j : ℕ) → one_if (is_command (request_at (record w.ioc { normal = rest }) j)) ≡ one_if (is_command (request_at w.ioc j))
+      same_request zero = refl
+      same_request (suc j) = refl
+
+      less : working s (record w.ioc { normal = rest }) + one_if (is_post_of s p) ≤ working s w.ioc
+      less = let a = ap (queued_count s) e in let c = queued_count-cons s p rest in let g = same_request s in omega (arith, a, c, g)
+
+      by_goes : Rattle.law_targets.proofs.Working.Goes s (record w.ioc { normal = rest }) p (named p (recorded_normal p rest e)) (step.works_on (record w.ioc { normal = rest }) p) → working s (step.works_on (record w.ioc { normal = rest }) p).part ≤ working s w.ioc
+      by_goes (inl l) = let a = less in omega (arith, l, a)
+      by_goes (inr k) = let a = less in let l = k.1 in omega (arith, l, a)
+
   -- ---- no more of a command is under way
 
   module _ (vectors : VectorsFit w) (n s : ℕ) (least : 1 ≤ s) (open_before : slot w.host s ≡ Open (request.Command n)) where
@@ -177,36 +200,10 @@ module _ (w : World) (h : History) (f : Facts w h) (plain : NothingIsStrange w) 
         omega (arith, a, c, d, g, k)
 
     highs : (p : Post) (rest : List Post) → w.ioc.high ≡ p ∷ rest → used (record w { ioc = (step.works_on (record w.ioc { high = rest }) p).part }) s ≤ used w s
-    highs p rest e = by_goes (work_goes s (record w.ioc { high = rest }) p (named p (recorded_high p rest e)))
-      where
-        i : Ioc
-        i = record w.ioc { high = rest }
-
-        same : working s (record w.ioc { high = rest }) ≤ working s w.ioc
-        same = by_same s w.ioc (record w.ioc { high = rest }) refl refl
-
-        by_goes : Rattle.law_targets.proofs.Working.Goes s (record w.ioc { high = rest }) p (named p (recorded_high p rest e)) (step.works_on (record w.ioc { high = rest }) p) → used (record w { ioc = (step.works_on (record w.ioc { high = rest }) p).part }) s ≤ used w s
-        by_goes (inl l) = let a = same in omega (arith, l, a)
-        by_goes (inr k) = high_is post.ScsiIo p rest e k.0 scsi_low
+    highs p rest e = let a = high_works s p rest e in omega (arith, a)
 
     normals : (p : Post) (rest : List Post) → w.ioc.normal ≡ p ∷ rest → used (record w { ioc = (step.works_on (record w.ioc { normal = rest }) p).part }) s ≤ used w s
-    normals p rest e = by_goes (work_goes s (record w.ioc { normal = rest }) p (named p (recorded_normal p rest e)))
-      where
-        less : working s (record w.ioc { normal = rest }) + one_if (is_post_of s p) ≤ working s w.ioc
-        less =
-            let a = ap (queued_count s) e in let c = queued_count-cons s p rest in
-            let i : Ioc = record w.ioc { normal = rest } in
-            let d = by_same s (record w.ioc { normal = rest }) (record (record w.ioc { normal = rest }) { normal = rest }) refl refl in
-            let g = same_request s in
-            omega (arith, a, c, g)
-          where
-            same_request : (j : ℕ) → one_if (Rattle.law_facts.specs.Words.is_command (Rattle.mpt_rules.specs.Ioc.Tables.request_at (record w.ioc { normal = rest }) j)) ≡ one_if (Rattle.law_facts.specs.Words.is_command (Rattle.mpt_rules.specs.Ioc.Tables.request_at w.ioc j))
-            same_request zero = refl
-            same_request (suc j) = refl
-
-        by_goes : Rattle.law_targets.proofs.Working.Goes s (record w.ioc { normal = rest }) p (named p (recorded_normal p rest e)) (step.works_on (record w.ioc { normal = rest }) p) → used (record w { ioc = (step.works_on (record w.ioc { normal = rest }) p).part }) s ≤ used w s
-        by_goes (inl l) = let a = less in omega (arith, l, a)
-        by_goes (inr k) = let a = less in let l = k.1 in omega (arith, l, a)
+    normals p rest e = let a = normal_works s p rest e in omega (arith, a)
 
     by_ioc : (x : Ioc) → working s x ≤ working s w.ioc → used (record w { ioc = x }) s ≤ used w s
     by_ioc x l = omega (arith, l)

@@ -4,4 +4,4 @@
 
 mod laws;
 
-pub use laws::plugs_are_told;
+pub use laws::{commands_stay_aimed, commands_stay_bound, plugs_are_told};
