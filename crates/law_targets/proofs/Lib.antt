@@ -8,3 +8,8 @@ pub mod HostAccepts
 pub mod BoundKept
 pub mod Posted
 pub mod AimedKept
+pub mod Views
+pub mod Heard
+pub mod KnownKept
+pub mod Orders
+pub mod Passed

@@ -66,7 +66,7 @@ module _ (w : World) (h : History) (f : Facts w h) where
   in_pool s r o = let x = in_table w.host.pool s (Open r) o (λ e. absurd (cc)) in let l = f.flights.sizes.pool in (x.0, omega (arith, x, l))
 
   -- what the limits say of it
-  fits : (s : ℕ) (r : Request) → slot w.host s ≡ Open r → RecordFits (Open r)
+  pub fits : (s : ℕ) (r : Request) → slot w.host s ≡ Open r → RecordFits (Open r)
   fits s r o =
       let z = in_table w.host.pool s (Open r) o (λ e. absurd (cc)) in
       subst RecordFits (place_of s o) (All-get_or RecordFits w.host.pool (s - 1) Free z.1 f.limits.records)

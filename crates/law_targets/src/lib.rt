@@ -4,4 +4,7 @@
 
 mod laws;
 
-pub use laws::{commands_stay_aimed, commands_stay_bound, plugs_are_told};
+pub use laws::{
+    commands_stay_aimed, commands_stay_bound, off_hosts_stay_unknown, orders_wait_for_init,
+    pages_stay_known, plugs_are_told, tasks_go_to_their_disks,
+};
