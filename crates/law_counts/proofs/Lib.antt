@@ -1,0 +1,5 @@
+pub mod Quiet
+pub mod Rules
+pub mod Frames
+pub mod Opens
+pub mod OnlyKept

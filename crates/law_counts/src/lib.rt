@@ -1,0 +1,6 @@
+//! Laws of what aborts and target resets count. The functions do nothing: what their contracts say is all that they are for.
+#![tactic(auto)]
+
+mod laws;
+
+pub use laws::only_high_stays;
