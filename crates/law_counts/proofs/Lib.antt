@@ -3,3 +3,8 @@ pub mod Rules
 pub mod Frames
 pub mod Opens
 pub mod OnlyKept
+pub mod IocAsks
+pub mod FabricAsks
+pub mod Placed
+pub mod ProgressKept
+pub mod Shown

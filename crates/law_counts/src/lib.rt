@@ -3,4 +3,4 @@
 
 mod laws;
 
-pub use laws::only_high_stays;
+pub use laws::{fabric_answers_at_first, only_high_stays, progress_is_kept};
