@@ -8,3 +8,4 @@ pub mod FabricAsks
 pub mod Placed
 pub mod ProgressKept
 pub mod Shown
+pub mod CountsPass

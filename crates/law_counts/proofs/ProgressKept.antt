@@ -281,7 +281,7 @@ module _ (w : World) (h : History) (f : Facts w h) (further : FabricAnswers w h)
                 };
               }
 
-  abort_there : (smid task : ℕ) (x : Slot Request) → slot w.host smid ≡ x → AbortSent task x → (257 ≤ smid) × (smid ≤ 264)
+  pub abort_there : (smid task : ℕ) (x : Slot Request) → slot w.host smid ≡ x → AbortSent task x → (257 ≤ smid) × (smid ≤ 264)
   abort_there smid task (Open (request.Abort n t)) e a = let c = classed w h f smid (request.Abort n t) e in (omega (arith, c), omega (arith, c))
   abort_there smid task Free e a = absurd a
   abort_there smid task Parked e a = absurd a
@@ -375,7 +375,7 @@ module _ (w : World) (h : History) (f : Facts w h) (further : FabricAnswers w h)
 
   -- ---- a reply is put
 
-  low : (queue : ℕ) (y : Said) → SaidIs w h queue y → (s : ℕ) → is_reply_of s y ≡ true → s < 65536
+  pub low : (queue : ℕ) (y : Said) → SaidIs w h queue y → (s : ℕ) → is_reply_of s y ≡ true → s < 65536
   low queue (said.Framed Rattle.std.proofs.Common.zero frame page sense) a s t = let z : 0 ≡ s = eqb-true 0 s t in omega (arith, z)
   low queue (said.Framed (Rattle.std.proofs.Common.suc j) frame page sense) a s t = by_slot (slot w.host (Rattle.std.proofs.Common.suc j)) refl a
     where

@@ -1,4 +1,7 @@
 //! The laws.
+ghost use Rattle.std.specs.Prelude.{ℕ};
+ghost use Rattle.mpt_wire.specs.Paths.TerminationCounts.{HighAsks, high_next};
+ghost use Rattle.mpt_wire.specs.Walks.Passes.{Passes};
 ghost use Rattle.mpt_rules.specs.Law.{NothingIsStrange};
 ghost use Rattle.mpt_rules.specs.World.Cases.{Case, entries, happens};
 ghost use Rattle.mpt_rules.specs.World.Settings.{Setting, first_world};
@@ -24,4 +27,10 @@ pub fn progress_is_kept()
 /// In the first world of any setting the fabric has nothing.
 pub fn fabric_answers_at_first()
     ensures { (s : Setting) → FabricAnswers (first_world s) (first_history s.disks) }
+{}
+
+/// And the entries of the case pass the rule of counts: an item for the fabric is put once, for a post of its kind, its count is taken after it, and a reply
+/// has that count, or where nothing was sent 0, or 1 of an abort that took its command out of the queue.
+pub fn counts_pass()
+    ensures { (w : World) (h : History) (c : Case) → Facts w h → NothingIsStrange w → FabricAnswers w h → (s : ℕ) → Passes (high_next s) (HighAsks s) (h.high s) (entries w c) }
 {}

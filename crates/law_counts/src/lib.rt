@@ -3,4 +3,4 @@
 
 mod laws;
 
-pub use laws::{fabric_answers_at_first, only_high_stays, progress_is_kept};
+pub use laws::{counts_pass, fabric_answers_at_first, only_high_stays, progress_is_kept};
