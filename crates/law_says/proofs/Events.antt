@@ -37,15 +37,15 @@ use Rattle.law_moves.proofs.Counted.{how_many-cons, others-cons}
 
 -- ---- the one change of an event
 
-change_of : List ℕ → Bool → Change
+abbrev pub change_of : List ℕ → Bool → Change
 change_of frame added = record { handle = field frame 0x28 2; status = if added then 1 else 2 }
 
 topology_changes : (context handle expander phys phy : ℕ) (added : Bool) → changes_in (reply_frame (reply.Topology context handle expander phys phy added)) ≡ change_of (reply_frame (reply.Topology context handle expander phys phy added)) added ∷ []
-unfolding event_reply_layout event_reply_values topology_layout topology_values topology_entry_layout topology_entry_values field changes_from change_of
+unfolding event_reply_layout event_reply_values topology_layout topology_values topology_entry_layout topology_entry_values field changes_from
 topology_changes context handle expander phys phy true = refl
 topology_changes context handle expander phys phy false = refl
 
-changes_are : (frame : List ℕ) (added : Bool) → frame ≡ event_like frame added → changes_in frame ≡ change_of frame added ∷ []
+pub changes_are : (frame : List ℕ) (added : Bool) → frame ≡ event_like frame added → changes_in frame ≡ change_of frame added ∷ []
 changes_are frame added e = subst (λ x. changes_in x ≡ change_of x added ∷ []) (sym e) (topology_changes _ _ _ _ _ added)
 
 module _ (w : World) (h : History) (f : Facts w h) (bytes page sense : List ℕ) (more : List Said) (front : up_line w 0 ≡ said.Framed 0 bytes page sense ∷ more) where
@@ -53,7 +53,7 @@ module _ (w : World) (h : History) (f : Facts w h) (bytes page sense : List ℕ)
   one_reply = ap (how_many is_reply) front ∙ how_many-cons is_reply (said.Framed 0 bytes page sense) more
 
   -- no reset goes on, so the host is starting or up
-  normal : is_resetting w.host.mode ≡ false → in_normal w ≡ true
+  pub normal : is_resetting w.host.mode ≡ false → in_normal w ≡ true
   normal n = by_mode w.host.mode refl
     where
       by_mode : (m : HostState) → w.host.mode ≡ m → (is_starting m || is_up m) ≡ true
@@ -65,7 +65,7 @@ module _ (w : World) (h : History) (f : Facts w h) (bytes page sense : List ℕ)
           absurd (omega (arith, z, c))
       by_mode state.Resetting e = let z : true ≡ false = sym (ap is_resetting e) ∙ n in absurd (cc)
 
-  live : is_resetting w.host.mode ≡ false → is_live w ≡ true
+  pub live : is_resetting w.host.mode ≡ false → is_live w ≡ true
   live n = by_live (is_live w) refl
     where
       not_begun : in_begun w ≡ false
@@ -86,7 +86,7 @@ module _ (w : World) (h : History) (f : Facts w h) (bytes page sense : List ℕ)
       named true e = refl
       named false e = absurd (cc)
 
-  none_freed : (s : ℕ) → freed_in s (said.Framed 0 bytes page sense) ≡ []
+  pub none_freed : (s : ℕ) → freed_in s (said.Framed 0 bytes page sense) ≡ []
   none_freed zero = refl
   none_freed (suc k) = ap (λ b. if b then IsFreed ∷ [] else []) (apart k)
     where
@@ -120,7 +120,7 @@ module _ (w : World) (h : History) (f : Facts w h) (bytes page sense : List ℕ)
   -- whichever of the two it tells
   not_strange : (added : Bool) → IsHandle (field bytes 0x28 2) → bytes ≡ event_like bytes added → (b : Bool) → is_resetting w.host.mode ≡ b
       → (if b then None else option_map why.NotAbsent (first_not_absent w.host.phases (added_handles (changes_in bytes)))) ≡ None
-  unfolding first_not_absent change_of
+  unfolding first_not_absent
   not_strange added i e true m = refl
   not_strange false i e false m = ap (λ cs. option_map why.NotAbsent (first_not_absent w.host.phases (added_handles cs))) (changes_are bytes false e)
   not_strange true i e false m =

@@ -183,7 +183,7 @@ abbrev is_framed : Said → Bool
 is_framed (said.Framed s frame page sense) = true
 is_framed item = false
 
-moved_short : (c : Command) (r : ScsiResult) → fits c ≡ true → length r.payload ≤ 4096 → moved_by (written_by c) r ≤ 4096
+pub moved_short : (c : Command) (r : ScsiResult) → fits c ≡ true → length r.payload ≤ 4096 → moved_by (written_by c) r ≤ 4096
 moved_short c r f l = by_write (is_write c.cdb) refl
   where
     most : (is_write c.cdb ≡ true) → length c.payload ≤ 4096
