@@ -1,2 +1,5 @@
 pub mod Fits
 pub mod Kept
+pub mod Takes
+pub mod Dry
+pub mod DisksKept

@@ -1,9 +1,10 @@
 //! The laws.
-ghost use Rattle.std.specs.Prelude.{List};
+ghost use Rattle.std.specs.Prelude.{List, ℕ};
 ghost use Rattle.mpt_trace.specs.declared.disk_spec.DiskSpec.{DiskSpec};
 ghost use Rattle.mpt_rules.specs.Law.{NothingIsStrange};
 ghost use Rattle.mpt_rules.specs.World.Cases.{Case, entries, happens};
 ghost use Rattle.mpt_rules.specs.World.State.{World};
+ghost use Rattle.law_facts.specs.Disks.{SameDisk};
 ghost use Rattle.law_facts.specs.Facts.{Facts};
 ghost use Rattle.law_facts.specs.History.{History, first_history, history_after};
 ghost use Rattle.law_messages.specs.Numbers.{AbortsAreAccepted};
@@ -21,4 +22,9 @@ pub fn machine_stays_fit()
 /// At first nothing is ready.
 pub fn ready_was_plugged_at_first()
     ensures { (disks : List DiskSpec) → ReadyWasPlugged (first_history disks) }
+{}
+
+/// Where all facts hold of a world and nothing on its way is strange to the host, each disk of the machine is the fabric's, in the world that any case leads to.
+pub fn disks_are_the_fabrics()
+    ensures { (w : World) (h : History) (c : Case) → Facts w h → NothingIsStrange w → (address : ℕ) → SameDisk (happens w c) (history_after h (entries w c)) address }
 {}
