@@ -44,7 +44,7 @@ module _ (P : Machine → Type 0) (keeps : (m : Machine) (x : Step) → Allowed 
 differ : (m n : ℕ) → (m == n) ≡ false → m ≢ n
 differ m n t e = grind (arith, t, e)
 
-inserted_set : (s : Numbers) (n k : ℕ) → set.contains (set.insert s n) k ≡ ((k == n) || set.contains s k)
+pub inserted_set : (s : Numbers) (n k : ℕ) → set.contains (set.insert s n) k ≡ ((k == n) || set.contains s k)
 inserted_set s n k = set.contains-insert nat_cmp_total s n k ∙ ap (λ b. b || set.contains s k) (same_key k n)
 
 removed_set : (s : Numbers) (n k : ℕ) → set.contains (set.remove s n) k ≡ true → set.contains s k ≡ true
@@ -61,7 +61,7 @@ inserted_is rs n r k = ap is_some (finmap.get-insert nat_cmp_total rs n r k) ∙
     by_key true = refl
     by_key false = refl
 
-removed_is : (rs : Requests) (n k : ℕ) → is_some (finmap.get (finmap.remove rs n) k) ≡ (not (k == n) && is_some (finmap.get rs k))
+pub removed_is : (rs : Requests) (n k : ℕ) → is_some (finmap.get (finmap.remove rs n) k) ≡ (not (k == n) && is_some (finmap.get rs k))
 removed_is rs n k = ap is_some (finmap.get-remove nat_cmp_total rs n k) ∙ by_key (eq_by_cmp nat_cmp k n) ∙ ap (λ b. not b && is_some (finmap.get rs k)) (same_key k n)
   where
     by_key : (b : Bool) → is_some (cond b None (finmap.get rs k)) ≡ (not b && is_some (finmap.get rs k))

@@ -1,2 +1,5 @@
 pub mod Agree
 pub mod Calls
+pub mod Ends
+pub mod Turns
+pub mod Kept
