@@ -3,3 +3,5 @@ pub mod Kept
 pub mod Takes
 pub mod Dry
 pub mod DisksKept
+pub mod Phys
+pub mod Wired

@@ -4,7 +4,7 @@ ghost use Rattle.mpt_trace.specs.declared.disk_spec.DiskSpec.{DiskSpec};
 ghost use Rattle.mpt_rules.specs.Law.{NothingIsStrange};
 ghost use Rattle.mpt_rules.specs.World.Cases.{Case, entries, happens};
 ghost use Rattle.mpt_rules.specs.World.State.{World};
-ghost use Rattle.law_facts.specs.Disks.{SameDisk};
+ghost use Rattle.law_facts.specs.Disks.{SameDisk, SameDisks};
 ghost use Rattle.law_facts.specs.Facts.{Facts};
 ghost use Rattle.law_facts.specs.History.{History, first_history, history_after};
 ghost use Rattle.law_messages.specs.Numbers.{AbortsAreAccepted};
@@ -27,4 +27,9 @@ pub fn ready_was_plugged_at_first()
 /// Where all facts hold of a world and nothing on its way is strange to the host, each disk of the machine is the fabric's, in the world that any case leads to.
 pub fn disks_are_the_fabrics()
     ensures { (w : World) (h : History) (c : Case) → Facts w h → NothingIsStrange w → (address : ℕ) → SameDisk (happens w c) (history_after h (entries w c)) address }
+{}
+
+/// With the same premises: the machine has the addresses of the fabric's disks, in their order, and fabric and controller have the same phys.
+pub fn addresses_are_the_fabrics()
+    ensures { (w : World) (h : History) (c : Case) → Facts w h → NothingIsStrange w → SameDisks (happens w c) (history_after h (entries w c)) }
 {}
