@@ -1,18 +1,16 @@
 -- Each open command is of bytes, and for unit 0: a submission is accepted as it was asked, and nothing else opens a command.
-use Rattle.std.proofs.Common.{◌≡◌, ℕ, zero, suc, ◌<◌, ◌==◌, Bool, true, false, if◌then◌else◌, List, [], ◌∷◌, ◌++◌, replicate, Option, Some, None, refl, ap, sym, ◌∙◌, subst, arith, slice_get}
+use Rattle.std.proofs.Common.{◌≡◌, ℕ, zero, suc, ◌<◌, ◌==◌, Bool, true, false, List, [], ◌∷◌, ◌++◌, replicate, Option, Some, None, refl, ap, sym, ◌∙◌, subst, arith}
 use Rattle.std.specs.FinMap as finmap
 use Rattle.std.specs.FinSet as finset
 use Rattle.std.specs.Int.{byte_at, bytes_high_first}
 use Rattle.std.specs.Ordering.{nat_cmp}
 use Rattle.hex.specs.Hex.{IsBytes}
 use Rattle.scsi_disk.specs.Command.{fits}
-use Rattle.scsi_disk.specs.declared.command.Command.{Command}
 use Rattle.smid_pool.specs.Pool.{least_free}
 use Rattle.smid_pool.specs.declared.class.Class.TheVariants as class
 use Rattle.removal.specs.Handles.{ready_handle}
 use Rattle.mpt_wire.specs.Machine.Causes.{is_up}
 use Rattle.mpt_wire.specs.Machine.State.{OpenRequest}
-use Rattle.mpt_wire.specs.Machine.View.{Seen}
 use Rattle.mpt_wire.specs.Walks.Passes.{EachEntry}
 use Rattle.mpt_trace.specs.Command.{cdb_of, command_named}
 use Rattle.mpt_trace.specs.ReadingSchedule.{IsCommand}

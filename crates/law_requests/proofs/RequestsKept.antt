@@ -1,8 +1,8 @@
 -- Each case keeps that what the controller keeps of an identifier at the fabric, and what is on its way there, is of the identifier's record.
-use Rattle.std.proofs.Common.{◌≡◌, ◌≢◌, ℕ, zero, suc, ◌+◌, ◌-◌, ◌%◌, ◌/◌, ◌*◌, ◌^◌, ◌<◌, ◌≤◌, ◌==◌, ◌&&◌, ◌||◌, ◌⊎◌, inl, inr, not, nat_lt, cond, Bool, true, false, if◌then◌else◌, List, [], ◌∷◌, ◌++◌, append_assoc, get_or, length, map, mod-lt, replicate, set, Option, Some, None, is_some, refl, ap, sym, ◌∙◌, subst, arith}
+use Rattle.std.proofs.Common.{◌≡◌, ℕ, zero, suc, ◌+◌, ◌-◌, ◌%◌, ◌^◌, ◌<◌, ◌≤◌, ◌==◌, ◌&&◌, ◌||◌, ◌⊎◌, inl, inr, not, nat_lt, cond, Bool, true, false, if◌then◌else◌, List, [], ◌∷◌, ◌++◌, append_assoc, get_or, length, mod-lt, replicate, set, Option, Some, None, is_some, refl, ap, sym, ◌∙◌, subst, arith}
 use Rattle.std.specs.Prelude.{All}
 use Rattle.std.specs.FinMap as finmap
-use Rattle.std.specs.List.{filter, find, position}
+use Rattle.std.specs.List.{find, position}
 use Rattle.std.proofs.lemmas.Bool.{eqb-true}
 use Rattle.std.proofs.lemmas.List.{get_or_past}
 use Rattle.std.proofs.lemmas.List.Elements.{All-append, All-get_or, All-head, All-nil, All-tail}
@@ -21,7 +21,7 @@ use Rattle.mpi_doorbell.specs.declared.state.IocState.TheVariants as ioc_state
 use Rattle.mpi_rings.specs.RequestDescriptor.{flags_of}
 use Rattle.mpi_rings.specs.declared.request_descriptor.PostKind.{PostKind}
 use Rattle.mpi_rings.specs.declared.request_descriptor.PostKind.TheVariants as post
-use Rattle.mpt_messages.specs.Function.{byte_of, function_of}
+use Rattle.mpt_messages.specs.Function.{function_of}
 use Rattle.mpt_messages.specs.HostFrames.{task_asked}
 use Rattle.mpt_messages.specs.Refusal.{request_refusal}
 use Rattle.mpt_messages.specs.declared.fault.MsgFault.{MsgFault}
@@ -34,7 +34,6 @@ use Rattle.mpt_wire.specs.Handles.Bindings.{Plug}
 use Rattle.mpt_wire.specs.Machine.State.{OpenRequest}
 use Rattle.mpt_wire.specs.Messages.Fields as fields
 use Rattle.mpt_wire.specs.Messages.Fields.{abort_task, controlled_handle_in, dev_handle_in, function_in, kind_in, msix_in, operation_in, post_descriptor, remove_device, smid_in, target_reset, task_mid_in, task_type_in}
-use Rattle.mpt_wire.specs.Paths.Commands.{Live}
 use Rattle.mpt_trace.specs.declared.entry.Entry.{Entry}
 use Rattle.mpt_trace.specs.declared.entry.Entry.TheVariants as entry
 use Rattle.mpt_trace.specs.declared.item.Back.{Back}
@@ -52,8 +51,8 @@ use Rattle.mpt_rules.specs.declared.binding.Waiting.{Waiting}
 use Rattle.mpt_rules.specs.declared.post.Post.{Post}
 use Rattle.mpt_rules.specs.declared.request.Request.{Request}
 use Rattle.mpt_rules.specs.declared.request.Request.TheVariants as request
-use Rattle.mpt_rules.specs.declared.status.TheConstants.{IOC_STATUS_BUSY, IOC_STATUS_CONFIG_INVALID_ACTION, IOC_STATUS_CONFIG_INVALID_TYPE, IOC_STATUS_INVALID_FIELD, IOC_STATUS_INVALID_SGL, IOC_STATUS_INVALID_STATE, IOC_STATUS_SUCCESS}
-use Rattle.mpt_rules.specs.Host.Parts.{Cmd, Host, host_queue_count}
+use Rattle.mpt_rules.specs.declared.status.TheConstants.{IOC_STATUS_BUSY, IOC_STATUS_CONFIG_INVALID_ACTION, IOC_STATUS_CONFIG_INVALID_TYPE, IOC_STATUS_INVALID_FIELD, IOC_STATUS_INVALID_SGL, IOC_STATUS_SUCCESS}
+use Rattle.mpt_rules.specs.Host.Parts.{Cmd, host_queue_count}
 use Rattle.mpt_rules.specs.Host.Posts.{command_asked, frame_asked}
 use Rattle.mpt_rules.specs.Host.Returns.{after_sent}
 use Rattle.mpt_rules.specs.Host.Takes.{hears_up, looks, stops}
@@ -72,7 +71,6 @@ use Rattle.mpt_rules.specs.Ioc.Tables.{is_operational, is_post_of, request_at}
 use Rattle.mpt_rules.specs.Ioc.Takes as adapter
 use Rattle.mpt_rules.specs.Ioc.Tasks as tasks
 use Rattle.mpt_rules.specs.Law.{NothingIsStrange}
-use Rattle.mpt_rules.specs.Outcome.{Happening}
 use Rattle.mpt_rules.specs.World.Cases.{Case, entries, happens}
 use Rattle.mpt_rules.specs.World.Counts.{how_many, one_if, queued_count}
 use Rattle.mpt_rules.specs.World.Inputs.{host_told}
@@ -84,7 +82,7 @@ use Rattle.law_facts.specs.Facts.{Facts}
 use Rattle.law_facts.specs.Handles.{BindingIs, ResetIsOf}
 use Rattle.law_facts.specs.History.{History, history_after}
 use Rattle.law_facts.specs.Limits.{RecordFits}
-use Rattle.law_facts.specs.Messages.{AbortAt, AbortSent, CommandAt, CommandPost, HasHandleOf, IsLiveTask, IsTarget, KeptIs, OutIs, PostIs, PostIsRecord, RequestIs}
+use Rattle.law_facts.specs.Messages.{AbortAt, AbortSent, CommandAt, CommandPost, IsLiveTask, IsTarget, KeptIs, OutIs, PostIs, PostIsRecord, RequestIs}
 use Rattle.law_facts.specs.Words.{is_bare, is_enable_asked, slot}
 use Rattle.law_flights.proofs.Decode.{mid_asked}
 use Rattle.law_flights.proofs.Descriptors.{kind_posted}
@@ -98,7 +96,7 @@ use Rattle.law_lights.proofs.Ones.{some_of}
 use Rattle.law_standing.proofs.FrameBytes.{field_lt, layout}
 use Rattle.law_standing.proofs.PostsPass.{named}
 use Rattle.law_messages.proofs.Agreeing.{all_first, all_last, all_more, handle_stays, not_both, same}
-use Rattle.law_messages.proofs.Known.{classed, inside}
+use Rattle.law_messages.proofs.Known.{inside}
 use Rattle.law_messages.proofs.Leads.{Leads}
 use Rattle.law_asked.proofs.AtFabric.{outs_stay}
 use Rattle.law_asked.proofs.Firm.{Stay, firm_by_places, not_live_there, stays}

@@ -1,5 +1,4 @@
 -- What is shown of requests at the fabric.
-use Rattle.std.proofs.Common.{◌≡◌, refl}
 use Rattle.mpt_rules.specs.World.Cases.{Case, entries, happens}
 use Rattle.mpt_rules.specs.Law.{NothingIsStrange}
 use Rattle.mpt_rules.specs.World.State.{World}

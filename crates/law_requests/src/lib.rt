@@ -4,4 +4,6 @@
 
 mod laws;
 
-pub use laws::{open_commands_are_of_bytes, open_commands_are_of_bytes_at_first, requests_are_kept};
+pub use laws::{
+    open_commands_are_of_bytes, open_commands_are_of_bytes_at_first, requests_are_kept,
+};
