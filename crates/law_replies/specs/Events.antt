@@ -1,0 +1,16 @@
+-- What is known of the events that the controller tells.
+use Rattle.std.specs.Prelude.{◌≡◌, ℕ, zero, ◌⊎◌, All, List, Bool, true, false}
+use Rattle.mpt_rules.specs.declared.said.Said.{Said}
+use Rattle.mpt_rules.specs.declared.said.Said.TheVariants as said
+use Rattle.mpt_rules.specs.Ioc.Replies.{outbox_of}
+use Rattle.mpt_rules.specs.World.State.{World}
+use Rattle.law_facts.specs.Messages.{event_like}
+
+-- what is said without an identifier is an event of one change
+abbrev pub TellsChange : Said → Type 0
+TellsChange (said.Framed zero frame page sense) = (frame ≡ event_like frame true) ⊎ (frame ≡ event_like frame false)
+TellsChange item = Unit {0}
+
+-- in each outbox
+abbrev pub EventsTellChanges : World → Type 0
+EventsTellChanges w = (queue : ℕ) → All TellsChange (outbox_of w.ioc queue)

@@ -1,0 +1,6 @@
+//! Laws of what the controller says. The functions do nothing: what their contracts say is all that they are for.
+#![tactic(auto)]
+
+mod laws;
+
+pub use laws::events_tell_one_change;
