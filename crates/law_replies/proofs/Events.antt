@@ -20,7 +20,8 @@ use Rattle.mpt_rules.specs.World.Cases.{Case, happens}
 use Rattle.mpt_rules.specs.World.State.{World}
 use Rattle.law_facts.specs.Facts.{Facts}
 use Rattle.law_facts.specs.History.{History}
-use Rattle.law_facts.specs.Messages.{event_like}
+use Rattle.law_facts.specs.Messages.{IsEvent, event_like}
+use Rattle.removal.specs.Handles.{IsHandle}
 use Rattle.law_standing.specs.Written.{EventIsWritten, FrameIsWritten, IsWritten, RepliesAreWritten}
 use Rattle.law_standing.proofs.Shown.{replies_stay_written}
 use Rattle.law_replies.specs.Events.{EventsTellChanges, TellsChange}
@@ -80,6 +81,28 @@ event_read frame e =
     let place : field frame 0x1e 2 - expander_handle 0 ≡ e.expander = omega (arith, x) in
     e.is ∙ five (λ a b c d g. reply_frame (reply.Topology a b c d g e.added)) e.context (event_context_in frame) e.handle (field frame 0x28 2) e.expander (field frame 0x1e 2 - expander_handle 0) e.phys (field frame 0x20 1) e.phy (field frame 0x25 1)
     (sym r.context_is) (sym r.handle_is) (sym place) (sym r.phys_is) (sym r.phy_is)
+
+-- an event of one change of a disk's handle, as it is told
+pub event_is : (context handle expander phys phy : ℕ) (added : Bool) → context < 2 ^ 32 → IsHandle handle → expander < 16 → phys < 2 ^ 8 → phy < 2 ^ 8
+    → IsEvent 0 (reply_frame (reply.Topology context handle expander phys phy added)) [] []
+event_is context handle expander phys phy added c l e p q =
+    (refl, refl, refl, subst IsHandle (sym r.handle_is) l, by_added added refl)
+  where
+    frame : List ℕ
+    frame = reply_frame (reply.Topology context handle expander phys phy added)
+
+    small : handle < 2 ^ 16
+    small = let b = l.1 in omega (arith, b)
+
+    r : IsRead context handle expander phys phy frame
+    r = read context handle expander phys phy added c small e p q
+
+    same : frame ≡ event_like frame added
+    same = event_read frame (record { context = context; handle = handle; expander = expander; phys = phys; phy = phy; added = added; fits = (c, small, e, p, q); is = refl })
+
+    by_added : (b : Bool) → added ≡ b → (frame ≡ event_like frame true) ⊎ (frame ≡ event_like frame false)
+    by_added true z = inl (subst (λ x. frame ≡ event_like frame x) z same)
+    by_added false z = inr (subst (λ x. frame ≡ event_like frame x) z same)
 
 one_told : (y : Said) → IsWritten y → TellsChange y
 one_told (said.Framed zero frame page sense) w = let e = w.event refl in by_added e.added (event_read frame e)

@@ -3,4 +3,4 @@
 
 mod laws;
 
-pub use laws::events_tell_one_change;
+pub use laws::{events_are_kept, events_stand_at_first, events_tell_one_change};
