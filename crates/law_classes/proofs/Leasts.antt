@@ -20,7 +20,7 @@ abbrev free_slot : Slot Request
 free_slot = Free
 
 -- place by place
-from : (f : ℕ → Bool) (b i n : ℕ) (xs : List (Slot Request)) → length xs ≡ n → ((k : ℕ) → k < n → f (suc (b + (i + k))) ≡ not (is_free (get_or xs k free_slot)))
+pub from : (f : ℕ → Bool) (b i n : ℕ) (xs : List (Slot Request)) → length xs ≡ n → ((k : ℕ) → k < n → f (suc (b + (i + k))) ≡ not (is_free (get_or xs k free_slot)))
     → least_closed_from f (suc (b + i)) n ≡ option_map (λ place. b + place + 1) (position_from is_free i xs)
 from f b i zero [] l a = refl
 from f b i (suc n) [] l a = absurd (cc)
@@ -41,7 +41,7 @@ from f b i (suc n) (x ∷ xs) l a = by_tests (f (suc (b + i))) (is_free x) at (f
     by_tests false false e r = absurd (cc)
 
 -- a class's
-of_class : (c : Class) (f : ℕ → Bool) (pool : List (Slot Request)) → length pool ≡ 280 → ((s : ℕ) → IsIn c s → f s ≡ not (is_free (slot_of pool s))) → least_closed_from f (suc (before c + 0)) (size_of c) ≡ least_free c pool
+pub of_class : (c : Class) (f : ℕ → Bool) (pool : List (Slot Request)) → length pool ≡ 280 → ((s : ℕ) → IsIn c s → f s ≡ not (is_free (slot_of pool s))) → least_closed_from f (suc (before c + 0)) (size_of c) ≡ least_free c pool
 of_class c f pool l a = from f (before c) 0 (size_of c) (slots_in c pool) long at ∙ ap (option_map (λ place. before c + place + 1)) (sym (position_from-zero is_free (slots_in c pool)))
   where
     long : length (slots_in c pool) ≡ size_of c
@@ -56,7 +56,7 @@ of_class c f pool l a = from f (before c) 0 (size_of c) (slots_in c pool) long a
 
 module _ (w : World) (h : History) (f : Facts w h) where
   -- an open one isn't free, and above the identifiers of SCSI IOs none is parked
-  open_or_free : (s : ℕ) → 257 ≤ s → s ≤ 280 → is_open (slot w.host s) ≡ not (is_free (slot w.host s))
+  pub open_or_free : (s : ℕ) → 257 ≤ s → s ≤ 280 → is_open (slot w.host s) ≡ not (is_free (slot w.host s))
   open_or_free s a b = by_slot (slot w.host s) refl
     where
       by_slot : (x : Slot Request) → slot w.host s ≡ x → is_open x ≡ not (is_free x)

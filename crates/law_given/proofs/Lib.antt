@@ -1,0 +1,4 @@
+mod HighFits
+mod HighMoves
+mod HighKept
+pub mod HighWorld
