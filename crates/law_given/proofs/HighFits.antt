@@ -1,19 +1,18 @@
 -- The identifiers of task management: what the host does with them, and what the rule makes of it.
-use Rattle.std.proofs.Common.{◌≡◌, ℕ, zero, suc, ◌+◌, ◌-◌, ◌<◌, ◌≤◌, ◌==◌, ◌⊎◌, not, cond, if◌then◌else◌, Bool, true, false, List, [], ◌∷◌, ◌++◌, append-nil, filter_map, length, map, set, length-set, Option, Some, None, refl, ap, sym, ◌∙◌, subst, arith}
+use Rattle.std.proofs.Common.{◌≡◌, ℕ, zero, suc, ◌+◌, ◌-◌, ◌<◌, ◌≤◌, ◌==◌, not, cond, if◌then◌else◌, Bool, true, false, List, [], ◌∷◌, ◌++◌, append-nil, filter_map, length, map, set, length-set, Option, Some, None, refl, ap, sym, ◌∙◌, subst, arith}
 use Rattle.std.specs.List.{cons_option}
 use Rattle.std.proofs.lemmas.Bool.{eqb-true}
 use Rattle.std.proofs.lemmas.Bool.Decides.{nat_tests}
 use Rattle.std.proofs.lemmas.List.Elements.{filter_map-append}
-use Rattle.smid_pool.specs.Class.{IsIn}
-use Rattle.smid_pool.specs.Pool.{Free, Open, Parked, Slot, is_free, is_open, least_free, slot_of}
+use Rattle.smid_pool.specs.Pool.{Free, Open, Slot, is_free, is_open, least_free, slot_of}
 use Rattle.smid_pool.specs.declared.class.Class.TheVariants as class
 use Rattle.mpi_rings.specs.declared.request_descriptor.PostKind.{PostKind}
 use Rattle.mpi_rings.specs.declared.request_descriptor.PostKind.TheVariants as post
 use Rattle.mpt_trace.specs.declared.item.Down.{Down}
 use Rattle.mpt_trace.specs.declared.item.Down.TheVariants as down
 use Rattle.mpt_wire.specs.Machine.State.{put_at}
-use Rattle.mpt_wire.specs.Messages.Fields.{kind_in, post_descriptor, smid_in}
-use Rattle.mpt_wire.specs.Queues.LeastPosts.{Another, ClassHeld, Want, freed, granted_next, least_closed_from, least_of, made_with, makes}
+use Rattle.mpt_wire.specs.Messages.Fields.{post_descriptor, smid_in}
+use Rattle.mpt_wire.specs.Queues.LeastPosts.{Another, ClassHeld, freed, granted_next, least_closed_from, least_of, made_with, makes}
 use Rattle.mpt_rules.specs.declared.request.Request.{Request}
 use Rattle.mpt_rules.specs.declared.request.Request.TheVariants as request
 use Rattle.mpt_rules.specs.Host.Parts.{Host}
@@ -21,7 +20,7 @@ use Rattle.mpt_rules.specs.Host.Posts as asks
 use Rattle.law_facts.specs.Ties.{another, made_as, made_by}
 use Rattle.law_flights.proofs.Descriptors.{kind_posted, smid_posted}
 use Rattle.law_flights.proofs.HostHolds.{slot_of-set}
-use Rattle.law_flights.proofs.Least.{IsLeast, least_is}
+use Rattle.law_flights.proofs.Least.{least_is}
 use Rattle.law_classes.proofs.Leasts.{of_class}
 
 -- ---- the least

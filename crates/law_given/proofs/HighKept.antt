@@ -1,22 +1,19 @@
 -- Each case keeps what the rule of least posts has of task management.
-use Rattle.std.proofs.Common.{◌≡◌, ℕ, zero, suc, ◌+◌, ◌-◌, ◌%◌, ◌<◌, ◌≤◌, ◌==◌, ◌&&◌, ◌||◌, ◌⊎◌, inl, inr, not, if◌then◌else◌, Bool, true, false, List, [], ◌∷◌, ◌++◌, drop, filter, filter_map, length, map, get_or, slice_get, slice_set, Option, Some, None, is_some, refl, ap, sym, ◌∙◌, subst, arith, mod-lt}
-use Rattle.std.specs.Prelude.{All}
+use Rattle.std.proofs.Common.{◌≡◌, ℕ, ◌-◌, ◌≤◌, ◌==◌, not, if◌then◌else◌, Bool, true, false, List, [], ◌∷◌, ◌++◌, drop, filter, filter_map, Option, Some, None, refl, ap, sym, ◌∙◌, subst, arith, mod-lt}
 use Rattle.std.specs.FinMap as finmap
 use Rattle.std.specs.FinSet as finset
 use Rattle.std.specs.List.{cons_option}
 use Rattle.std.proofs.lemmas.Bool.Decides.{nat_tests}
-use Rattle.std.proofs.lemmas.List.Elements.{All-head}
 use Rattle.event_msgs.specs.EventReply.{event_reply_layout, event_reply_values}
 use Rattle.event_msgs.specs.Topology.{topology_layout, topology_values}
 use Rattle.event_msgs.specs.TopologyEntry.{topology_entry_layout, topology_entry_values}
 use Rattle.mpi_layout.specs.Rows.{field}
 use Rattle.scsi_disk.specs.declared.command.Command.{Command}
 use Rattle.scsi_disk.specs.Command.{fits as fits_command}
-use Rattle.smid_pool.specs.Class.{IsIn}
-use Rattle.smid_pool.specs.Pool.{Free, Open, Parked, Slot, least_free, slot_of}
+use Rattle.smid_pool.specs.Pool.{Open, least_free}
 use Rattle.smid_pool.specs.declared.class.Class.TheVariants as class
 use Rattle.removal.specs.Handles.{IsHandle, phase_at, ready_handle, with_phase}
-use Rattle.removal.specs.Phases.{after_added, after_gone, after_page, after_removed, after_task_done}
+use Rattle.removal.specs.Phases.{after_added, after_gone}
 use Rattle.removal.specs.declared.phase.Phase.{Phase}
 use Rattle.removal.specs.declared.phase.Phase.TheVariants as phase
 use Rattle.mpi_doorbell.specs.HostDoor.{HostDoor}
@@ -38,23 +35,18 @@ use Rattle.mpt_trace.specs.declared.input.Input.TheVariants as input
 use Rattle.mpt_trace.specs.declared.item.Down.{Down}
 use Rattle.mpt_trace.specs.declared.item.Down.TheVariants as down
 use Rattle.mpt_trace.specs.declared.item.Item.TheVariants as item
-use Rattle.mpt_trace.specs.declared.item.Up.{Up}
-use Rattle.mpt_trace.specs.declared.item.Up.TheVariants as upward
 use Rattle.mpt_trace.specs.declared.lane.LaneName.TheVariants as lane
 use Rattle.mpt_trace.specs.declared.refusal.Refusal.{Refusal}
 use Rattle.mpt_trace.specs.declared.refusal.Refusal.TheVariants as refusal
 use Rattle.mpt_trace.specs.declared.refusal.RefusedCall.TheVariants as call
-use Rattle.mpt_wire.specs.Machine.Causes.{is_resetting, is_up}
+use Rattle.mpt_wire.specs.Machine.Causes.{is_up}
 use Rattle.mpt_wire.specs.Messages.Fields.{Change, changes_in, kind_in, smid_in}
 use Rattle.mpt_wire.specs.Queues.LeastPosts.{APage, Another, ClassHeld, Giving, after_changes, after_post_put, caused, change_heard, departs, event_heard, freed, freed_by, giving_next, heard, is_notification, is_of_kind, least_of, makes, makes_internal, reply_heard, without_posts}
 use Rattle.mpt_wire.specs.Queues.LeastPosts as rule
 use Rattle.mpt_wire.specs.Walks.Ahead.{next_own, state_ahead}
 use Rattle.mpt_wire.specs.Walks.Passes.{EachEntry}
 use Rattle.mpt_rules.proofs.HostCalls.{aborts_by, resets_target_by, submits_by}
-use Rattle.mpt_rules.specs.declared.request.Request.{Request}
 use Rattle.mpt_rules.specs.declared.request.Request.TheVariants as request
-use Rattle.mpt_rules.specs.declared.said.Said.{Said}
-use Rattle.mpt_rules.specs.declared.said.Said.TheVariants as said
 use Rattle.mpt_rules.specs.declared.stage.Stage.{Stage}
 use Rattle.mpt_rules.specs.declared.stage.Stage.TheVariants as stage
 use Rattle.mpt_rules.specs.Host.Doorbell as door
@@ -68,38 +60,22 @@ use Rattle.mpt_rules.specs.Host.Resets as resets
 use Rattle.mpt_rules.specs.Host.Resets.{is_no_post}
 use Rattle.mpt_rules.specs.Host.Returns as returns
 use Rattle.mpt_rules.specs.Host.Returns.{after_sent}
-use Rattle.mpt_rules.specs.Host.Takes.{hears_up, is_starting}
 use Rattle.mpt_rules.specs.Ioc.Parts.{Ioc}
 use Rattle.mpt_rules.specs.Ioc.Registers.{after_effect}
-use Rattle.mpt_rules.specs.Ioc.Steps as work
 use Rattle.mpt_rules.specs.Ioc.Takes as adapter
-use Rattle.mpt_rules.specs.Law.{NothingIsStrange}
 use Rattle.mpt_rules.specs.Outcome.{Happening}
-use Rattle.mpt_rules.specs.World.Cases.{Case, entries, happens}
 use Rattle.mpt_rules.specs.World.Counts.{how_many}
 use Rattle.mpt_rules.specs.World.Inputs.{by_option, by_result, host_told}
-use Rattle.mpt_rules.specs.World.Lines.{said_of, said_reply, up_line}
-use Rattle.mpt_rules.specs.World.State.{World, up_lane, up_on}
-use Rattle.law_facts.specs.Clock.{in_normal}
-use Rattle.law_facts.specs.Facts.{Facts}
-use Rattle.law_facts.specs.Flights.{RecordStands}
-use Rattle.law_facts.specs.Handles.{is_announced, phase_of}
-use Rattle.law_facts.specs.History.{History, history_after}
-use Rattle.law_facts.specs.Messages.{AnswersBy, SaidIs, event_like}
-use Rattle.law_facts.specs.Ties.{another, made_as, made_by}
-use Rattle.law_facts.specs.Words.{is_calm_said, is_off, is_post, others, slot}
-use Rattle.law_flights.proofs.HostHolds.{in_table}
-use Rattle.law_flights.proofs.HostMoves.{is_reset_stage}
+use Rattle.law_facts.specs.Handles.{is_announced}
+use Rattle.law_facts.specs.Messages.{event_like}
+use Rattle.law_facts.specs.Ties.{made_as, made_by}
+use Rattle.law_facts.specs.Words.{is_post}
 use Rattle.law_flights.proofs.Least.{least_is}
-use Rattle.law_moves.proofs.CasesTold.{IsPlugWord, OwesTold, kept_told}
-use Rattle.law_moves.proofs.Counted.{how_many-cons, others-cons}
-use Rattle.law_moves.proofs.HostWords.{word_reply_to}
-use Rattle.law_moves.proofs.IocWords.{IsIocWord, back_words, works_words}
-use Rattle.law_records.proofs.Recorded.{fits}
-use Rattle.law_classes.proofs.Leasts.{open_or_free}
-use Rattle.law_given.specs.HighGiven.{HighGiven}
-use Rattle.law_given.proofs.HighFits.{Fits, HighFits, asked, asks_leave, below, command_is_none, frees_high, least_same, silent}
-use Rattle.law_given.proofs.HighMoves.{IsEmpty, After, asks_internal, begun, entry_taken, freed_other, frees_internal, over, valued, words_stay}
+use Rattle.law_moves.proofs.CasesTold.{IsPlugWord}
+use Rattle.law_moves.proofs.Counted.{how_many-cons}
+use Rattle.law_moves.proofs.IocWords.{IsIocWord}
+use Rattle.law_given.proofs.HighFits.{Fits, HighFits, asked, asks_leave, below, command_is_none, silent}
+use Rattle.law_given.proofs.HighMoves.{asks_internal, begun}
 
 -- ---- what the rule makes of a reply
 

@@ -1,12 +1,8 @@
 -- What the host does with what it takes and is told, beside what the rule of least posts makes of the entries, of task management.
 use Rattle.std.proofs.Common.{◌≡◌, ℕ, zero, suc, ◌+◌, ◌-◌, ◌%◌, ◌<◌, ◌≤◌, ◌==◌, ◌&&◌, not, cond, if◌then◌else◌, Bool, true, false, List, [], ◌∷◌, ◌++◌, filter, filter_map, length, map, replicate, set, take, Option, Some, None, refl, ap, sym, ◌∙◌, subst, arith, mod-lt}
 use Rattle.std.specs.FinMap as finmap
-use Rattle.std.specs.FinSet as finset
-use Rattle.std.specs.List.{cons_option, fold, range_with_len}
-use Rattle.scsi_disk.specs.declared.command.Command.{Command}
-use Rattle.scsi_disk.specs.Command.{fits}
-use Rattle.smid_pool.specs.Class.{IsIn}
-use Rattle.smid_pool.specs.Pool.{Free, Open, Parked, Slot, is_free, is_open, least_free, slot_of}
+use Rattle.std.specs.List.{fold, range_with_len}
+use Rattle.smid_pool.specs.Pool.{Free, Open, is_free, is_open, least_free}
 use Rattle.smid_pool.specs.declared.class.Class.TheVariants as class
 use Rattle.mpi_doorbell.specs.HostDoor.{HostDoor}
 use Rattle.mpi_doorbell.specs.HostSteps.{diagnostic_reset, handshake_of_message, look_at_doorbell, next_step, unit_reset}
@@ -40,12 +36,12 @@ use Rattle.mpt_rules.specs.Host.Resets.{is_no_post}
 use Rattle.mpt_rules.specs.Host.Returns as returns
 use Rattle.mpt_rules.specs.Host.Values as values
 use Rattle.mpt_rules.specs.Outcome.{Happening}
-use Rattle.law_facts.specs.Ties.{another, made_as, made_by}
+use Rattle.law_facts.specs.Ties.{made_by}
 use Rattle.law_flights.proofs.HostMoves.{AreWrites, is_reset_stage}
 use Rattle.law_flights.proofs.HostTurns.{all_free_at}
 use Rattle.law_flights.proofs.Least.{least_is}
 use Rattle.law_moves.proofs.HostWords.{IsHostWord}
-use Rattle.law_given.proofs.HighFits.{Fits, HighFits, above, default_is_none, silent}
+use Rattle.law_given.proofs.HighFits.{Fits, above, default_is_none, silent}
 
 -- ---- requests of the internal class
 

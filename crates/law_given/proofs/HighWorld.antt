@@ -1,5 +1,5 @@
 -- Over every case, the rule of least posts has of task management what the host has.
-use Rattle.std.proofs.Common.{◌≡◌, ℕ, zero, suc, ◌+◌, ◌-◌, ◌<◌, ◌≤◌, ◌==◌, ◌||◌, ◌⊎◌, inl, inr, if◌then◌else◌, Bool, true, false, List, [], ◌∷◌, ◌++◌, filter_map, length, map, get_or, slice_set, Option, Some, None, is_some, refl, ap, sym, ◌∙◌, subst, arith}
+use Rattle.std.proofs.Common.{◌≡◌, ℕ, zero, suc, ◌≤◌, ◌==◌, ◌||◌, ◌⊎◌, inl, inr, if◌then◌else◌, Bool, true, false, List, [], ◌∷◌, ◌++◌, length, map, get_or, slice_set, Option, Some, None, refl, ap, sym, ◌∙◌, subst, arith}
 use Rattle.std.specs.Prelude.{All}
 use Rattle.std.specs.FinMap as finmap
 use Rattle.std.proofs.lemmas.Bool.Decides.{nat_tests}
@@ -23,7 +23,7 @@ use Rattle.mpt_trace.specs.declared.lane.LaneName.TheVariants as lane
 use Rattle.mpt_wire.specs.Machine.Causes.{is_resetting, is_up}
 use Rattle.mpt_wire.specs.Machine.SoFar.{SoFar}
 use Rattle.mpt_wire.specs.Messages.Fields.{changes_in, event_context_in, event_in, smid_in}
-use Rattle.mpt_wire.specs.Queues.LeastPosts.{Another, ClassHeld, Giving, after_changes, caused, event_heard, freed, freed_by, giving_next, heard, is_of_kind, least_of, makes_internal}
+use Rattle.mpt_wire.specs.Queues.LeastPosts.{Another, Giving, after_changes, event_heard, freed, freed_by, giving_next, heard, is_of_kind, least_of, makes_internal}
 use Rattle.mpt_wire.specs.Walks.Ahead.{next_own, state_ahead}
 use Rattle.mpt_rules.specs.declared.request.Request.{Request}
 use Rattle.mpt_rules.specs.declared.request.Request.TheVariants as request
@@ -46,7 +46,7 @@ use Rattle.mpt_rules.specs.World.State.{World, up_lane, up_on}
 use Rattle.law_facts.specs.Clock.{in_normal}
 use Rattle.law_facts.specs.Facts.{Facts}
 use Rattle.law_facts.specs.Flights.{RecordStands}
-use Rattle.law_facts.specs.Handles.{is_announced, phase_of}
+use Rattle.law_facts.specs.Handles.{is_announced}
 use Rattle.law_facts.specs.History.{History, history_after}
 use Rattle.law_facts.specs.Messages.{AnswersBy, SaidIs, event_like}
 use Rattle.law_facts.specs.Ties.{another}
@@ -182,9 +182,9 @@ module _ (w : World) (h : History) (f : Facts w h) where
       let g : Giving = makes_internal Another (record h.giving { internal = freed_by post.Default 0 h.giving.internal }) in
       let handle = field bytes 0x28 2 in
       let known =
-          ap (λ (x : SoFar). x.announced handle) f.ties.so_far
-          ∙ ((f.handles.each handle i).known.announced n
-          ∙ ap (λ ps. is_announced (phase_at ps handle)) (sym (phases_asked k (event_in bytes) (event_context_in bytes) ∙ same.phases))) in
+      ap (λ (x : SoFar). x.announced handle) f.ties.so_far
+      ∙ ((f.handles.each handle i).known.announced n
+      ∙ ap (λ ps. is_announced (phase_at ps handle)) (sym (phases_asked k (event_in bytes) (event_context_in bytes) ∙ same.phases))) in
       subst (λ cs. Fits (removal.hears_changes m cs).part (after_changes h.giving.so_far.announced cs g).high) (sym (changes_are bytes added e))
       (one_change m h.giving.so_far.announced g bytes added i known (asks_internal k (request.Ack (event_in bytes) (event_context_in bytes)) h.giving.high z))
 
