@@ -1,10 +1,10 @@
 -- Each call of the host keeps what the rule of the interrupt status knows.
-use Rattle.std.proofs.Common.{◌≡◌, ℕ, zero, suc, ◌+◌, ◌*◌, ◌/◌, ◌%◌, ◌^◌, ◌<◌, ◌≤◌, ◌==◌, ◌&&◌, ◌||◌, ◌⊎◌, inl, inr, not, Bool, true, false, if◌then◌else◌, List, [], ◌∷◌, ◌++◌, append_assoc, get_or, length, map, slice_set, Option, Some, None, is_some, refl, ap, sym, ◌∙◌, subst, arith}
+use Rattle.std.proofs.Common.{◌≡◌, ℕ, zero, suc, ◌+◌, ◌*◌, ◌/◌, ◌%◌, ◌^◌, ◌<◌, ◌≤◌, ◌==◌, ◌&&◌, ◌||◌, ◌⊎◌, inl, inr, not, Bool, true, false, if◌then◌else◌, List, [], ◌∷◌, ◌++◌, append_assoc, length, map, Option, Some, None, refl, ap, sym, ◌∙◌, subst, arith}
 use Rattle.std.specs.List.{filter}
 use Rattle.std.proofs.lemmas.Bool.{eqb-true, ne_eqb}
 use Rattle.std.proofs.lemmas.Nat.Bits.{and_pow}
 use Rattle.mpi_doorbell.specs.Bytes.{has}
-use Rattle.mpi_doorbell.specs.DoorRegisters.{DoorRegisters, Written, doorbell_written, function_written, is_fault, quietly, register_value, register_written}
+use Rattle.mpi_doorbell.specs.DoorRegisters.{DoorRegisters, Written, doorbell_written, function_written, is_fault, quietly, register_value}
 use Rattle.mpi_doorbell.specs.Handshake.{Handshake, Idle, Collects, Asked as AskedMessage, Replies, asked_by, dword_taken, is_idle, is_replying}
 use Rattle.mpi_doorbell.specs.HostDoor.{HostDoor, register_of}
 use Rattle.mpi_doorbell.specs.declared.registers.TheConstants.{DOORBELL, DOORBELL_USED, HOST_INTERRUPT_STATUS, IOC2SYS_DB_STATUS, REPLY_POST_HOST_INDEX, SYS2IOC_DB_STATUS}
@@ -14,7 +14,6 @@ use Rattle.mpi_doorbell.specs.declared.stage.Stage.{Stage as DoorStage}
 use Rattle.mpi_doorbell.specs.declared.stage.Stage.TheVariants as door_stage
 use Rattle.mpi_doorbell.specs.declared.state.IocState.{IocState}
 use Rattle.mpi_doorbell.specs.declared.state.IocState.TheVariants as ioc_state
-use Rattle.mpi_doorbell.specs.declared.step.DoorStep.TheVariants as step
 use Rattle.mpt_messages.specs.declared.host_ask.HostAsk.{HostAsk}
 use Rattle.mpt_wire.specs.Machine.Causes.{is_resetting, is_up}
 use Rattle.mpt_wire.specs.Messages.Registers.{Bell, bell_next, has_bit}
@@ -37,25 +36,22 @@ use Rattle.mpt_rules.specs.Host.Doorbell.{DoorTurn, next_turn, unit_reset_dword}
 use Rattle.mpt_rules.specs.Host.Parts.{Host}
 use Rattle.mpt_rules.specs.Host.Resets as resets
 use Rattle.mpt_rules.specs.Host.Takes.{is_starting}
-use Rattle.mpt_rules.specs.Ioc.Parts.{Ioc, state_of}
+use Rattle.mpt_rules.specs.Ioc.Parts.{Ioc}
 use Rattle.mpt_rules.specs.Ioc.Replies.{outbox_of}
 use Rattle.mpt_rules.specs.World.Counts.{how_many, is_register_write, one_if, read_count, register_write_count, value_count}
 use Rattle.mpt_rules.specs.World.Lines.{down_line, said_of, up_line}
 use Rattle.mpt_rules.specs.World.State.{World, queues_of, up_on}
-use Rattle.mpt_rules.specs.World.Weight.{is_read, is_said_value}
+use Rattle.mpt_rules.specs.World.Weight.{is_said_value}
 use Rattle.mpt_rules.proofs.Counts.{how_many-append}
 use Rattle.law_facts.specs.Clock.{Clock, in_normal}
-use Rattle.law_facts.specs.DoorAhead.{IsInMode, ReadsFor, WaitsAt, door_ahead, does_still, first_value, is_look, rests_at_door, value_coming, writes_still, written_ahead}
+use Rattle.law_facts.specs.DoorAhead.{IsInMode, WaitsAt, door_ahead, does_still, first_value, is_look, rests_at_door, value_coming, writes_still, written_ahead}
 use Rattle.law_facts.specs.History.{History}
 use Rattle.law_facts.specs.Ties.{ReadsAre, is_status_write}
-use Rattle.law_moves.proofs.Counted.{Grown, false_by_none, fewer_pass, filter_keeps, grown-count, how_many-cons, how_many-nil}
-use Rattle.law_moves.proofs.Hears.{is_reset_stage}
+use Rattle.law_moves.proofs.Counted.{Grown, false_by_none, fewer_pass, filter_keeps, grown-count, how_many-cons}
 use Rattle.law_moves.proofs.HostSpeaks.{ComesUp, Rises, Stays, is_spoken}
 use Rattle.law_moves.proofs.Phases.{and_false}
 use Rattle.law_clock.specs.Premises.{Before}
 use Rattle.law_doors.proofs.Ahead.{ahead-nil, ahead-write, core, quiet_ahead}
-use Rattle.law_doors.proofs.StageKept.{Begun}
-use Rattle.law_doors.proofs.Turning.{Kind}
 use Rattle.law_starts.specs.Starts.{StartsStand}
 use Rattle.law_starts.proofs.HostAtDoor as at
 use Rattle.law_starts.proofs.HostAtDoor.{Asked, AtDoor, Beginning, Begins, Diagnostic, Drops, Free, FromOff, GivesUp, HasValue, Keeps, Late, Looked, Marked, MessageUnit, Next, Opened, Readied, Renewed, Turns, base_begun, begins_is, contrary, is_plain, spoken_plain, value_comes}
@@ -68,7 +64,7 @@ use Rattle.law_locks.proofs.LocksHost as by_host
 use Rattle.law_locks.proofs.LocksHost.{asked_starting, asks_for}
 use Rattle.law_locks.proofs.Rounds.{bell_is, bell_value, byte_of, interrupt_read, taken_read}
 use Rattle.law_locks.proofs.Unbelled.{SameBell, is_bell_write, unbelled_ahead}
-use Rattle.law_bell_status.specs.Bells.{DoorFits, IsHeard, is_talk_write, is_word_write}
+use Rattle.law_bell_status.specs.Bells.{IsHeard, is_talk_write, is_word_write}
 use Rattle.law_bell_status.proofs.Belled.{BellHolds, BellOn}
 use Rattle.law_bell_status.proofs.TalkTurns.{all_sent, begun_untalked, left_one, left_silent, news_untalked, none_of, opened_one, status_of_talk, taken_one, talk_of_bell, used_untalked, word_of_talk, word_one}
 

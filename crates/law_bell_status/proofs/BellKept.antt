@@ -1,19 +1,15 @@
 -- Each case keeps what the rule of the interrupt status knows, and each value that is put passes it.
-use Rattle.std.proofs.Common.{◌≡◌, ℕ, zero, suc, ◌+◌, ◌-◌, ◌≤◌, ◌==◌, ◌&&◌, ◌||◌, ◌⊎◌, inl, inr, cond, not, nat_lt, Bool, true, false, if◌then◌else◌, List, [], ◌∷◌, ◌++◌, append-nil, append_assoc, drop, get_or, length, map, set, slice_get, slice_set, take, Option, Some, None, is_some, refl, ap, sym, ◌∙◌, subst, arith}
+use Rattle.std.proofs.Common.{◌≡◌, ℕ, zero, suc, ◌+◌, ◌-◌, ◌≤◌, ◌==◌, ◌&&◌, ◌||◌, ◌⊎◌, inl, inr, cond, not, nat_lt, Bool, true, false, if◌then◌else◌, List, [], ◌∷◌, ◌++◌, append_assoc, drop, get_or, length, map, slice_get, take, Option, Some, None, refl, ap, sym, ◌∙◌, subst, arith}
 use Rattle.std.specs.List.{filter}
 use Rattle.std.proofs.lemmas.Bool.{eqb-true, false≢true, lt-ltb, ne_eqb}
-use Rattle.std.proofs.lemmas.Nat.Bits.{and_pow}
-use Rattle.mpi_doorbell.specs.DoorRegisters.{DoorRegisters, Written, bits_if, doorbell_value, is_fault, linked_up, quietly, register_value, register_written}
-use Rattle.mpi_doorbell.specs.Handshake.{Handshake, Idle, Collects, Asked, Replies, is_idle, is_replying}
+use Rattle.mpi_doorbell.specs.DoorRegisters.{DoorRegisters, Written, is_fault, linked_up, quietly, register_value, register_written}
+use Rattle.mpi_doorbell.specs.Handshake.{is_idle, is_replying}
 use Rattle.mpi_doorbell.specs.HostDoor.{HostDoor, register_of}
 use Rattle.mpi_doorbell.specs.declared.effect.Effect.{Effect}
 use Rattle.mpi_doorbell.specs.declared.effect.Effect.TheVariants as effect
 use Rattle.mpi_doorbell.specs.declared.registers.TheConstants.{DOORBELL, DOORBELL_USED, HOST_INTERRUPT_STATUS, IOC2SYS_DB_STATUS, REPLY_POST_HOST_INDEX}
 use Rattle.mpi_doorbell.specs.declared.stage.Reading.{Reading}
-use Rattle.mpi_doorbell.specs.declared.stage.Reading.TheVariants as reading
-use Rattle.mpi_doorbell.specs.declared.stage.Stage.{Stage as DoorStage}
 use Rattle.mpi_doorbell.specs.declared.stage.Stage.TheVariants as door_stage
-use Rattle.mpi_doorbell.specs.declared.state.IocState.{IocState}
 use Rattle.mpi_doorbell.specs.declared.state.IocState.TheVariants as ioc_state
 use Rattle.mpt_wire.specs.Machine.Causes.{is_up}
 use Rattle.mpt_wire.specs.Messages.Registers.{Bell, BellAsks, IsStatus, bell_next, door_written, dword_written, handshake_begun, has_bit, silent_bell, status_cleared, status_now}
@@ -42,7 +38,6 @@ use Rattle.mpt_rules.specs.Ioc.Resets.{forgets, marked, next_generation, outlive
 use Rattle.mpt_rules.specs.Ioc.Sending.{up_of, up_sent_on}
 use Rattle.mpt_rules.specs.Ioc.Steps as ioc_step
 use Rattle.mpt_rules.specs.Ioc.Takes as adapter
-use Rattle.mpt_rules.specs.Law.{NothingIsStrange}
 use Rattle.mpt_rules.specs.Outcome.{Happening}
 use Rattle.mpt_rules.specs.World.Cases.{Case, entries, happens}
 use Rattle.mpt_rules.specs.World.Counts.{how_many, is_register_write, one_if, read_count, register_write_count, value_count}
@@ -52,8 +47,7 @@ use Rattle.mpt_rules.specs.World.Weight.{is_read, is_said_value}
 use Rattle.mpt_rules.proofs.Counts.{how_many-append}
 use Rattle.law_facts.specs.Clock.{Clock}
 use Rattle.law_facts.specs.DoorAhead.{WaitsAt, first_read, first_value, value_coming}
-use Rattle.law_facts.specs.Facts.{Facts}
-use Rattle.law_facts.specs.History.{History, history_after}
+use Rattle.law_facts.specs.History.{History}
 use Rattle.law_facts.specs.Ties.{ReadsAre, is_status_write}
 use Rattle.law_facts.specs.Words.{is_reply}
 use Rattle.law_flights.specs.Given.{Resets}
@@ -76,12 +70,12 @@ use Rattle.law_steps.proofs.Coming.{first_before, first_pass, first_put, first_s
 use Rattle.law_locks.specs.Locks.{HandshakesStand}
 use Rattle.law_ties.proofs.Quiet.{passes_over, state_stays}
 use Rattle.law_ties.proofs.Steady.{IsSteady, steady_back, steady_input, steady_item, steady_plug, steady_work}
-use Rattle.law_bell_status.specs.Bells.{BellStands, IsHeard, is_talk_write, is_word_write}
+use Rattle.law_bell_status.specs.Bells.{IsHeard, is_talk_write, is_word_write}
 use Rattle.law_bell_status.proofs.Belled.{BellHolds, BellOn}
 use Rattle.law_bell_status.proofs.BellHost as by_host
 use Rattle.law_bell_status.proofs.BellHost.{answered_none, answered_some, no_list, no_some, none_some}
 use Rattle.law_bell_status.proofs.Rung.{Rung, RungBy, write_rung, write_taken}
-use Rattle.law_bell_status.proofs.TalkTurns.{none_of, status_of_talk, word_of_talk}
+use Rattle.law_bell_status.proofs.TalkTurns.{status_of_talk, word_of_talk}
 
 -- ---- the rule
 
@@ -245,9 +239,6 @@ module _ (w : World) (h : History) (b : Before w h) (s : StartsStand w) (l : Han
   -- ---- a write
 
   module _ (reg value : ℕ) (rest : List Down) (e : w.down ≡ down.Write reg value ∷ rest) where
-    x : Down
-    x = down.Write reg value
-
     counted : (p : Down → Bool) → how_many p (down_line w) ≡ one_if (p (down.Write reg value)) + how_many p (rest ++ w.host.out)
     counted p = ap (λ xs. how_many p (xs ++ w.host.out)) e ∙ how_many-cons p (down.Write reg value) (rest ++ w.host.out)
 
@@ -398,9 +389,6 @@ module _ (w : World) (h : History) (b : Before w h) (s : StartsStand w) (l : Han
             let a = how_many-append is_said_value (map said_of (up_on w 0)) (get_or (forgets j).up 0 []) in let p = parts in let z = values in let n = left in
             no_first (map said_of (up_on w 0) ++ get_or (forgets j).up 0 []) (omega (arith, a, p, z, n))
 
-    After : Ioc → World
-    After i = record w { ioc = i; down = rest }
-
     wrote : is_fault (state_of (adapter.takes_down w.ioc (down.Write reg value)).part) ≡ false → BellGoes (record w { ioc = (adapter.takes_down w.ioc (down.Write reg value)).part; down = rest }) (entry.Take lane.Down (item.Down (down.Write reg value)) ∷ (adapter.takes_down w.ioc (down.Write reg value)).entries)
     wrote n = by_effect (register_written w.ioc.door reg value).effect refl n
       where
@@ -428,9 +416,6 @@ module _ (w : World) (h : History) (b : Before w h) (s : StartsStand w) (l : Han
   -- ---- a read
 
   module _ (reg : ℕ) (rest : List Down) (e : w.down ≡ down.Read reg ∷ rest) where
-    v : ℕ
-    v = register_value w.ioc.door reg
-
     line_is : down_line w ≡ down.Read reg ∷ (rest ++ w.host.out)
     line_is = ap (λ xs. xs ++ w.host.out) e
 
@@ -459,9 +444,6 @@ module _ (w : World) (h : History) (b : Before w h) (s : StartsStand w) (l : Han
     some_queue : nat_lt 0 (length w.ioc.up) ≡ true
     some_queue = let z = b.facts.flights.sizes.some_queue in let o = b.facts.flights.sizes.outboxes in lt-ltb 0 (length w.ioc.up) (omega (arith, z, o))
 
-    i : Ioc
-    i = say.says_on w.ioc 0 (said.Value (register_value w.ioc.door reg) ∷ [])
-
     outbox : first_value (get_or (say.says_on w.ioc 0 (said.Value (register_value w.ioc.door reg) ∷ [])).up 0 []) ≡ Some (register_value w.ioc.door reg)
     outbox =
         ap first_value (get_or-set_any w.ioc.up 0 0 (outbox_of w.ioc 0 ++ said.Value (register_value w.ioc.door reg) ∷ []) [] ∙ ap (λ c. cond c (outbox_of w.ioc 0 ++ said.Value (register_value w.ioc.door reg) ∷ []) (get_or w.ioc.up 0 [])) some_queue)
@@ -476,12 +458,6 @@ module _ (w : World) (h : History) (b : Before w h) (s : StartsStand w) (l : Han
       where
         same_some : (n m : ℕ) → Some n ≡ Some m → n ≡ m
         same_some n m e = cc
-
-    read : Option ℕ
-    read = if reg == HOST_INTERRUPT_STATUS then Some (status_now h.bell) else None
-
-    abbrev Next : Bell
-    Next = record h.bell { reads = h.bell.reads ++ (if reg == HOST_INTERRUPT_STATUS then Some (status_now h.bell) else None) ∷ [] }
 
     reads_is : h.bell.reads ++ (if reg == HOST_INTERRUPT_STATUS then Some (status_now h.bell) else None) ∷ [] ≡ (if reg == HOST_INTERRUPT_STATUS then Some (status_now h.bell) else None) ∷ []
     reads_is = ap (λ xs. xs ++ (if reg == HOST_INTERRUPT_STATUS then Some (status_now h.bell) else None) ∷ []) unread
@@ -592,9 +568,6 @@ module _ (w : World) (h : History) (b : Before w h) (s : StartsStand w) (l : Han
   -- ---- an item is put up
 
   module _ (queue : ℕ) (y : Said) (rest : List Said) (z : Up) (e : outbox_of w.ioc queue ≡ y ∷ rest) (g : up_of y (slice_get w.ioc.ring 0) ≡ Some z) where
-    Sent : World
-    Sent = with_up (record w { ioc = up_sent_on w.ioc queue }) queue (up_on w queue ++ z ∷ [])
-
     coming_is : value_coming (with_up (record w { ioc = up_sent_on w.ioc queue }) queue (up_on w queue ++ z ∷ [])) ≡ value_coming w
     coming_is = changes.put_of w.up w.ioc.up queue 0 (λ xs. first_value xs ≡ value_coming w) y rest z e (b.facts.flights.sizes.lanes ∙ sym b.facts.flights.sizes.outboxes) (λ xs ys f. sym (first_put y (slice_get w.ioc.ring 0) z g xs ys) ∙ f) refl
 

@@ -1,5 +1,5 @@
 -- What is shown of the interrupt status, over all cases.
-use Rattle.std.proofs.Common.{◌≡◌, ℕ, ◌≤◌, refl, arith}
+use Rattle.std.proofs.Common.{arith}
 use Rattle.mpt_rules.specs.Law.{NothingIsStrange}
 use Rattle.mpt_rules.specs.World.Cases.{Case, entries, happens}
 use Rattle.mpt_rules.specs.World.Counts.{how_many}

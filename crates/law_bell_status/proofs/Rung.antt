@@ -1,13 +1,12 @@
 -- What a write of the host is to the door, and what it is to the rule of the interrupt status.
-use Rattle.std.proofs.Common.{◌≡◌, ℕ, zero, suc, ◌+◌, ◌-◌, ◌*◌, ◌/◌, ◌%◌, ◌^◌, ◌<◌, ◌≤◌, ◌==◌, ◌&&◌, ◌||◌, ◌⊎◌, inl, inr, not, nat_le, nat_lt, Bool, true, false, if◌then◌else◌, List, [], ◌∷◌, ◌++◌, drop, length, slice_index, take, Option, Some, None, refl, ap, sym, ◌∙◌, subst, arith}
+use Rattle.std.proofs.Common.{◌≡◌, ℕ, zero, suc, ◌-◌, ◌/◌, ◌%◌, ◌^◌, ◌≤◌, ◌==◌, ◌&&◌, ◌||◌, ◌⊎◌, inl, inr, not, nat_le, nat_lt, Bool, true, false, if◌then◌else◌, List, [], ◌∷◌, ◌++◌, drop, length, slice_index, take, Option, Some, None, refl, ap, sym, ◌∙◌, subst, arith}
 use Rattle.std.proofs.lemmas.Bool.{eqb-true, lt-ltb, ltb-true, ne_eqb}
 use Rattle.byteorder.specs.Endian.{little_bytes}
-use Rattle.mpi_doorbell.specs.DoorRegisters.{DoorRegisters, Written, doorbell_written, function_written, is_fault, quietly, register_written, status_written}
+use Rattle.mpi_doorbell.specs.DoorRegisters.{Written, doorbell_written, function_written, is_fault, quietly, register_written, status_written}
 use Rattle.mpi_doorbell.specs.Handshake.{Handshake, Idle, Collects, Asked, Replies, asked_by, asks, dword_taken, is_idle, is_replying, next_word}
 use Rattle.mpi_doorbell.specs.declared.effect.Effect.{Effect}
 use Rattle.mpi_doorbell.specs.declared.effect.Effect.TheVariants as effect
 use Rattle.mpi_doorbell.specs.declared.registers.TheConstants.{DOORBELL, HOST_INTERRUPT_STATUS}
-use Rattle.mpi_doorbell.specs.declared.state.IocState.TheVariants as ioc_state
 use Rattle.mpt_messages.specs.Function.{function_of}
 use Rattle.mpt_messages.specs.Refusal.{request_refusal_as}
 use Rattle.mpt_messages.specs.declared.fault.MsgFault.{MsgFault}

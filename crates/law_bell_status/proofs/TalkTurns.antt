@@ -1,5 +1,5 @@
 -- How many writes of a handshake a turn of the host's machine makes, by what it waits for.
-use Rattle.std.proofs.Common.{◌≡◌, ℕ, ◌≤◌, ◌==◌, ◌&&◌, ◌||◌, not, Bool, true, false, if◌then◌else◌, List, [], ◌∷◌, drop, length, Some, None, refl, ap, sym, ◌∙◌, subst, arith}
+use Rattle.std.proofs.Common.{◌≡◌, ℕ, ◌≤◌, ◌==◌, ◌&&◌, ◌||◌, not, Bool, true, false, if◌then◌else◌, List, [], ◌∷◌, drop, length, None, refl, ap, sym, ◌∙◌, subst, arith}
 use Rattle.byteorder.specs.Endian.{little_number}
 use Rattle.mpi_doorbell.specs.Bytes.{has}
 use Rattle.mpi_doorbell.specs.HostDoor.{HostDoor, Stepped, reads, refuses, writes}

@@ -1,5 +1,5 @@
 -- Further facts of the interrupt status: the door is a handshake's or idle, and what is on its way to it is one write of a handshake at most.
-use Rattle.std.specs.Prelude.{◌≡◌, ℕ, ◌≤◌, ◌==◌, ◌&&◌, ◌||◌, ◌⊎◌, not, Bool, true, false, List, [], ◌∷◌, Option, Some, None}
+use Rattle.std.specs.Prelude.{◌≡◌, ℕ, ◌≤◌, ◌==◌, ◌&&◌, ◌||◌, ◌⊎◌, not, Bool, true, false, [], ◌∷◌, Some, None}
 use Rattle.mpi_doorbell.specs.Handshake.{Handshake, Idle, Collects, Asked, Replies, is_idle}
 use Rattle.mpi_doorbell.specs.HostDoor.{HostDoor, register_of}
 use Rattle.mpi_doorbell.specs.declared.registers.TheConstants.{DOORBELL, DOORBELL_USED, HOST_INTERRUPT_STATUS}

@@ -1,5 +1,5 @@
 -- What is kept of the words of a handshake, over the host, the controller's generation, what a read of the Doorbell gives, and the rule's state.
-use Rattle.std.proofs.Common.{◌≡◌, ℕ, ◌+◌, ◌≤◌, ◌<◌, ◌==◌, ◌&&◌, ◌||◌, not, Bool, true, false, List, [], ◌∷◌, Option, Some, None, if◌then◌else◌, is_none, is_some, refl, ap, sym, ◌∙◌, subst}
+use Rattle.std.proofs.Common.{◌≡◌, ℕ, ◌≤◌, ◌==◌, ◌&&◌, not, Bool, true, false, Option, Some, None, if◌then◌else◌, is_none, is_some, refl, ap, sym, ◌∙◌, subst}
 use Rattle.mpi_doorbell.specs.DoorRegisters.{DoorRegisters, doorbell_value, register_value}
 use Rattle.mpi_doorbell.specs.HostDoor.{HostDoor}
 use Rattle.mpi_doorbell.specs.declared.registers.TheConstants.{DOORBELL}
@@ -7,7 +7,6 @@ use Rattle.std.proofs.lemmas.Bool.{eqb-true}
 use Rattle.mpt_messages.specs.declared.host_ask.HostAsk.{HostAsk}
 use Rattle.mpt_wire.specs.Machine.Causes.{is_resetting}
 use Rattle.mpt_wire.specs.Messages.DoorbellWords.{IsTalk, Talk, is_over, value_heard, word_heard}
-use Rattle.mpt_trace.specs.declared.item.Down.{Down}
 use Rattle.mpt_rules.specs.declared.stage.Stage.{Stage}
 use Rattle.mpt_rules.specs.declared.stage.Stage.TheVariants as stage
 use Rattle.mpt_rules.specs.Host.Parts.{Host, host_queue_count}

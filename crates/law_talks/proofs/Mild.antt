@@ -1,8 +1,7 @@
 -- Entries that the rule of a handshake's words passes over.
-use Rattle.std.proofs.Common.{◌≡◌, ℕ, zero, suc, ◌+◌, Bool, true, false, List, [], ◌∷◌, ◌++◌, Option, Some, None, slice_get, refl, sym, subst}
+use Rattle.std.proofs.Common.{◌≡◌, ℕ, zero, suc, Bool, true, false, List, [], ◌∷◌, ◌++◌, Option, Some, None, slice_get, refl, sym, subst}
 use Rattle.mpt_wire.specs.Messages.DoorbellWords.{Door, DoorAsks, IsTalk, door_next}
 use Rattle.mpt_wire.specs.Walks.Passes.{EachEntry, Passes, state_after}
-use Rattle.mpt_trace.specs.Command.{command_named}
 use Rattle.mpt_trace.specs.declared.choice.Choice.{Choice}
 use Rattle.mpt_trace.specs.declared.choice.Choice.TheVariants as choice
 use Rattle.mpt_trace.specs.declared.entry.Entry.{Entry}
@@ -21,11 +20,9 @@ use Rattle.scsi_disk.specs.declared.command.Command.{Command}
 use Rattle.mpt_rules.specs.Fabric.Calls as fab
 use Rattle.mpt_rules.specs.Fabric.Parts.{Fabric}
 use Rattle.mpt_rules.specs.Host.Parts.{Cmd, Host}
-use Rattle.mpt_rules.specs.Ioc.Parts.{Ioc}
-use Rattle.mpt_rules.specs.Ioc.Sending.{front_up_of}
 use Rattle.mpt_rules.specs.Ioc.Steps as step
 use Rattle.mpt_rules.specs.World.Cases.{Case, Chosen, FabricCalms, HostLooks, HostStops, Told, entries, moves_or_idles}
-use Rattle.mpt_rules.specs.World.Inputs.{by_option, by_plug, by_result}
+use Rattle.mpt_rules.specs.World.Inputs.{by_plug, by_result}
 use Rattle.mpt_rules.specs.World.Moves as move
 use Rattle.mpt_rules.specs.World.State.{World, up_on}
 use Rattle.mpt_rules.proofs.HostCalls.{aborts_by, resets_target_by, submits_by}

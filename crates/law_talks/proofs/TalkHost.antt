@@ -1,7 +1,7 @@
 -- Each call of the host keeps the words of a handshake.
-use Rattle.std.proofs.Common.{◌≡◌, ℕ, zero, suc, ◌%◌, ◌+◌, ◌^◌, ◌<◌, ◌≤◌, ◌==◌, ◌&&◌, ◌||◌, ◌⊎◌, inl, inr, not, Bool, true, false, List, [], ◌∷◌, ◌++◌, append_assoc, append-nil, bit_and, bit_or, if◌then◌else◌, length, map, get_or, slice_set, Option, Some, None, is_none, is_some, refl, ap, sym, ◌∙◌, subst, arith}
+use Rattle.std.proofs.Common.{◌≡◌, ℕ, ◌<◌, ◌≤◌, ◌==◌, ◌&&◌, ◌||◌, ◌⊎◌, inl, inr, not, Bool, true, false, List, [], ◌∷◌, ◌++◌, append_assoc, append-nil, bit_and, bit_or, if◌then◌else◌, length, map, get_or, slice_set, Option, Some, None, is_none, is_some, refl, ap, sym, ◌∙◌, subst, arith}
 use Rattle.std.specs.List.{filter}
-use Rattle.mpi_doorbell.specs.DoorRegisters.{DoorRegisters, register_value}
+use Rattle.mpi_doorbell.specs.DoorRegisters.{register_value}
 use Rattle.mpi_doorbell.specs.HostDoor.{HostDoor, Stepped, finishes, reads, refuses, register_of, state_step, writes}
 use Rattle.mpi_doorbell.specs.Bytes.{has}
 use Rattle.mpi_doorbell.specs.HostReset.{without}
@@ -19,7 +19,6 @@ use Rattle.mpt_messages.specs.declared.host_ask.HostAsk.{HostAsk}
 use Rattle.mpt_messages.specs.declared.host_ask.HostAsk.TheVariants as ask
 use Rattle.mpt_wire.specs.Machine.Causes.{is_resetting}
 use Rattle.mpt_wire.specs.Messages.DoorbellWords.{IsTalk, Talk, asked_bytes, is_over, value_heard}
-use Rattle.mpt_trace.specs.declared.host_state.HostState.{HostState}
 use Rattle.mpt_trace.specs.declared.host_state.HostState.TheVariants as state
 use Rattle.mpt_trace.specs.declared.item.Down.{Down}
 use Rattle.mpt_trace.specs.declared.item.Down.TheVariants as down
@@ -34,16 +33,16 @@ use Rattle.mpt_rules.specs.Host.Resets as resets
 use Rattle.mpt_rules.specs.Ioc.Parts.{Ioc, ioc_queue_count, state_of}
 use Rattle.mpt_rules.specs.Ioc.Tables.{is_ready}
 use Rattle.mpt_rules.specs.World.Counts.{how_many, is_register_write, one_if, read_count, register_write_count, value_count}
-use Rattle.mpt_rules.specs.World.Lines.{down_line, said_of, up_line}
+use Rattle.mpt_rules.specs.World.Lines.{down_line, said_of}
 use Rattle.mpt_rules.specs.World.State.{World, queues_of, up_on}
-use Rattle.mpt_rules.specs.World.Weight.{is_read, is_said_value}
+use Rattle.mpt_rules.specs.World.Weight.{is_read}
 use Rattle.mpt_rules.proofs.Counts.{how_many-append}
 use Rattle.law_facts.specs.Clock.{Clock, in_begun}
-use Rattle.law_facts.specs.DoorAhead.{IsInMode, ReadsFor, WaitsAt, awaits, door_ahead, first_read, first_value, is_diagnostic, is_look, value_coming, waits_to_reset, written_ahead}
+use Rattle.law_facts.specs.DoorAhead.{IsInMode, ReadsFor, WaitsAt, awaits, door_ahead, first_read, first_value, is_diagnostic, value_coming, waits_to_reset, written_ahead}
 use Rattle.law_facts.specs.History.{History}
 use Rattle.law_facts.specs.Ties.{SaidAt, or_put, register_awaited, talk_with}
 use Rattle.law_facts.specs.Words.{is_doorbell_write, is_off}
-use Rattle.law_moves.proofs.Counted.{fewer_pass, filter_keeps, grown-count, how_many-cons, how_many-nil, none_passes}
+use Rattle.law_moves.proofs.Counted.{fewer_pass, filter_keeps, grown-count, how_many-cons, none_passes}
 use Rattle.law_moves.proofs.Hears.{IsOver, is_reset_stage}
 use Rattle.law_moves.proofs.HostSpeaks.{ComesUp, Rises, Speaks, Stays, is_spoken}
 use Rattle.law_moves.proofs.Phases.{and_false, off_second}
@@ -56,15 +55,15 @@ use Rattle.law_starts.proofs.Alike.{filtered_ahead, plain_alike}
 use Rattle.law_starts.specs.Starts.{StartsStand}
 use Rattle.law_starts.proofs.HostAtDoor as at
 use Rattle.law_starts.proofs.HostAtDoor.{Asked, AtDoor, Beginning, Begins, Diagnostic, Drops, Free, FromOff, GivesUp, HasValue, Keeps, Late, Looked, Marked, MessageUnit, Next, NextShake, Opened, Readied, Renewed, Turns, asks_with, base_begun, begins_is, contrary, is_plain, spoken_plain, value_comes}
-use Rattle.law_starts.proofs.Resetting.{TurnAt, over_linked}
+use Rattle.law_starts.proofs.Resetting.{TurnAt}
 use Rattle.law_locks.specs.Locks.{HandshakesStand, ShakesAt, ask_of_stage}
 use Rattle.law_locks.proofs.LocksHost as by_host
 use Rattle.law_locks.proofs.LocksHost.{asked_starting, asks_for}
 use Rattle.law_locks.proofs.Rounds.{ahead_up}
-use Rattle.law_locks.proofs.Unbelled.{bell_of_doorbell, is_bell_write, keys_unbelled, talk_turn}
+use Rattle.law_locks.proofs.Unbelled.{bell_of_doorbell, is_bell_write, talk_turn}
 use Rattle.law_talks.specs.Talking.{TalkGoesOn}
 use Rattle.law_talks.proofs.Holding.{TalkHolds, TalkOn, begun_of, given, waits_of}
-use Rattle.law_talks.proofs.Talking.{goes-append, goes-cut, goes-filter, goes-more, goes-over, goes-quiet, goes-unit, heard-over, talk-append, talk-filter, talk-nil, talk-quiet, talks-on}
+use Rattle.law_talks.proofs.Talking.{goes-append, goes-cut, goes-filter, goes-more, goes-over, goes-quiet, goes-unit, heard-over, talk-append, talk-filter, talk-quiet, talks-on}
 use Rattle.law_talks.proofs.TurnTalks.{Says, TurnSays, turn_says}
 
 -- ---- reads
@@ -224,21 +223,11 @@ module _ (w : World) (h : History) (b : Before w h) (s : StartsStand w) (l : Han
   k : Clock w h
   k = b.facts.clock
 
-  abbrev Q : ℕ
-  Q = queues_of w
-
-  abbrev G : ℕ
-  G = w.ioc.generation
-
   abbrev A : Ioc
   A = written_ahead w.ioc (down_line w)
 
   all_queues : ioc_queue_count (written_ahead w.ioc (down_line w)) ≡ queues_of w
   all_queues = ap length (ahead_up w.ioc (down_line w)) ∙ (b.facts.flights.sizes.outboxes ∙ by_host.counted w h b s l)
-
-  -- the talk once the outbox is put
-  abbrev C : Talk
-  C = talk_with h.door.talk w.host.out
 
   talks : IsTalk (queues_of w) (talk_with h.door.talk w.host.out)
   talks = talks-on (queues_of w) h.door.asked h.door.talk w.host.out t.go_on t.begun
@@ -463,9 +452,6 @@ module _ (w : World) (h : History) (b : Before w h) (s : StartsStand w) (l : Han
     -- ---- the outbox behind a turn
 
     module _ (d : HostDoor) (y : Reading) (v : ℕ) (hv : HasValue w d y v) where
-      abbrev New : Talk
-      New = value_heard h.door.talk h.door.reading v
-
       out_goes : TalkGoesOn (queues_of w) m (value_heard h.door.talk h.door.reading v) (w.host.out ++ (next_turn d (Some v)).writes)
       out_goes =
           let p = turn_talks d y v hv in

@@ -1,6 +1,5 @@
 -- Each case keeps the words of a handshake, and its entries pass their rule.
-use Rattle.std.proofs.Common.{◌≡◌, ℕ, zero, suc, ◌+◌, ◌-◌, ◌%◌, ◌^◌, ◌≤◌, ◌<◌, ◌==◌, ◌&&◌, ◌||◌, ◌⊎◌, inl, inr, cond, not, Bool, true, false, nat_lt, if◌then◌else◌, List, [], ◌∷◌, ◌++◌, append-nil, append_assoc, get_or, length, length-set, map, slice_get, take, Option, Some, None, is_none, is_some, refl, ap, sym, ◌∙◌, subst, arith}
-use Rattle.std.specs.Bool.{MatchBool}
+use Rattle.std.proofs.Common.{◌≡◌, ℕ, zero, suc, ◌+◌, ◌-◌, ◌≤◌, ◌==◌, ◌&&◌, cond, not, Bool, true, false, nat_lt, if◌then◌else◌, List, [], ◌∷◌, ◌++◌, append-nil, append_assoc, get_or, length, length-set, map, slice_get, take, Option, Some, None, is_none, is_some, refl, ap, sym, ◌∙◌, subst, arith}
 use Rattle.std.specs.FinMap as finmap
 use Rattle.std.specs.FinSet as finset
 use Rattle.std.proofs.lemmas.Bool.{eqb-true, lt-ltb}
@@ -9,7 +8,7 @@ use Rattle.mpi_doorbell.specs.HostSteps.{diagnostic_reset, look_at_doorbell, uni
 use Rattle.mpi_doorbell.specs.HostDoor.{HostDoor}
 use Rattle.mpi_doorbell.specs.declared.effect.Effect.{Effect}
 use Rattle.mpi_doorbell.specs.declared.effect.Effect.TheVariants as effect
-use Rattle.mpi_doorbell.specs.declared.registers.TheConstants.{DOORBELL, WRITE_SEQUENCE}
+use Rattle.mpi_doorbell.specs.declared.registers.TheConstants.{DOORBELL}
 use Rattle.scsi_disk.specs.Command.{fits}
 use Rattle.smid_pool.specs.Pool.{least_free}
 use Rattle.smid_pool.specs.declared.class.Class.TheVariants as class
@@ -53,20 +52,19 @@ use Rattle.mpt_rules.specs.Ioc.Resets.{forgets, next_generation}
 use Rattle.mpt_rules.specs.Ioc.Sending.{up_of, up_sent_on}
 use Rattle.mpt_rules.specs.Ioc.Steps as ioc_step
 use Rattle.mpt_rules.specs.Ioc.Takes as adapter
-use Rattle.mpt_rules.specs.Law.{NothingIsStrange}
 use Rattle.mpt_rules.specs.Outcome.{Happening}
 use Rattle.mpt_rules.specs.World.Cases.{Case, entries, happens}
-use Rattle.mpt_rules.specs.World.Counts.{how_many, is_register_write, one_if, read_count, register_write_count, reset_write_count, value_count}
+use Rattle.mpt_rules.specs.World.Counts.{how_many, is_register_write, one_if, read_count, register_write_count, value_count}
 use Rattle.mpt_rules.specs.World.Inputs.{by_option, host_told}
 use Rattle.mpt_rules.specs.World.Lines.{down_line, said_of, up_line}
 use Rattle.mpt_rules.specs.World.State.{World, queues_of, up_lane, up_on, with_up}
 use Rattle.mpt_rules.specs.World.Weight.{is_read, is_said_value}
 use Rattle.mpt_rules.proofs.Counts.{how_many-append}
-use Rattle.law_facts.specs.Clock.{Clock, in_asked, in_begun}
+use Rattle.law_facts.specs.Clock.{Clock, in_asked}
 use Rattle.law_facts.specs.DoorAhead.{awaits, does_still, door_ahead, first_read, first_value, value_coming, waits_to_reset, written_ahead}
 use Rattle.law_facts.specs.History.{History}
 use Rattle.law_facts.specs.Ties.{SaidAt, or_put, talk_with}
-use Rattle.law_facts.specs.Words.{is_reply, is_stray_reset}
+use Rattle.law_facts.specs.Words.{is_reply}
 use Rattle.law_flights.specs.Given.{Resets}
 use Rattle.law_flights.proofs.Tables.{get_or-set_any}
 use Rattle.law_moves.proofs.Cases.{IsHosts}
@@ -77,11 +75,10 @@ use Rattle.law_moves.proofs.HostSpeaks as speaks
 use Rattle.law_moves.proofs.IocSpeaks.{CalmTold, IocSpeaks, LinkedUp, News, Speaks as SpeaksBack, Unlinked, is_asked_out, never_out, news}
 use Rattle.law_moves.proofs.IocTakes as leaf
 use Rattle.law_moves.proofs.IocTakes.{Takes, takes}
-use Rattle.law_moves.proofs.IocWords.{IsIocWord, back_words, works_words}
+use Rattle.law_moves.proofs.IocWords.{back_words, works_words}
 use Rattle.law_moves.proofs.Phases.{and_false, same_is}
 use Rattle.law_moves.proofs.Registers.{writes_are}
 use Rattle.law_moves.proofs.UpChanges as changes
-use Rattle.law_moves.proofs.UpLines as lines
 use Rattle.law_clock.specs.Premises.{Before}
 use Rattle.law_clock.proofs.PhaseKept.{asked_now, high_words, normal_words}
 use Rattle.law_resets.proofs.ResettingKept.{Ends, GoesOn, TellsMode, begins_mode, rise_mode, tells_mode}
@@ -96,7 +93,7 @@ use Rattle.law_steps.proofs.Coming.{first_before, first_pass, first_put, first_s
 use Rattle.law_locks.specs.Locks.{HandshakesStand}
 use Rattle.law_locks.proofs.UnitAsked.{looked_up, stopped_up, told_up, took_up}
 use Rattle.law_talks.specs.Talking.{TalkGoesOn}
-use Rattle.law_talks.proofs.Holding.{TalkHolds, TalkOn, begun_of, given, waits_of}
+use Rattle.law_talks.proofs.Holding.{TalkHolds, TalkOn, given, waits_of}
 use Rattle.law_talks.proofs.Mild.{IsMild, IsPlain, host_all, ioc_all, mild_abort, mild_submit, mild_target, passes_over, plain_case, state_stays}
 use Rattle.law_talks.proofs.TalkHost as by_host
 use Rattle.law_talks.proofs.TalkHost.{no_read_first, unwaited}
@@ -213,9 +210,6 @@ module _ (w : World) (h : History) (b : Before w h) (s : StartsStand w) (l : Han
   -- ---- a write
 
   module _ (reg value : ℕ) (rest : List Down) (e : w.down ≡ down.Write reg value ∷ rest) where
-    j : Ioc
-    j = record w.ioc { door = (register_written w.ioc.door reg value).registers }
-
     line : (f : Effect) → (register_written w.ioc.door reg value).effect ≡ f → written_ahead (does_still (record w.ioc { door = (register_written w.ioc.door reg value).registers }) f) (rest ++ w.host.out) ≡ written_ahead w.ioc (down_line w)
     line f y =
         sym (ap (λ xs. written_ahead w.ioc (xs ++ w.host.out)) e ∙ (ahead-write w.ioc reg value (rest ++ w.host.out) ∙ ap (λ g. written_ahead (does_still (record w.ioc { door = (register_written w.ioc.door reg value).registers }) g) (rest ++ w.host.out)) y))
@@ -333,13 +327,13 @@ module _ (w : World) (h : History) (b : Before w h) (s : StartsStand w) (l : Han
     -- the value is the one that is read
     comes : Of (say.says_on w.ioc 0 (said.Value (register_value w.ioc.door reg) ∷ [])) ≡ Some (register_value w.ioc.door reg)
     comes =
-        ap first_value (changes_line 0 refl) ∙ first_said (up_line w 0) (register_value w.ioc.door reg) no_values
+        ap first_value line_now ∙ first_said (up_line w 0) (register_value w.ioc.door reg) no_values
       where
         some_queue : nat_lt 0 (length w.ioc.up) ≡ true
         some_queue = let z = b.facts.flights.sizes.some_queue in let o = b.facts.flights.sizes.outboxes in lt-ltb 0 (length w.ioc.up) (omega (arith, z, o))
 
-        changes_line : (q : ℕ) → q ≡ 0 → map said_of (up_on w 0) ++ get_or (say.says_on w.ioc 0 (said.Value (register_value w.ioc.door reg) ∷ [])).up 0 [] ≡ up_line w 0 ++ said.Value (register_value w.ioc.door reg) ∷ []
-        changes_line q z =
+        line_now : map said_of (up_on w 0) ++ get_or (say.says_on w.ioc 0 (said.Value (register_value w.ioc.door reg) ∷ [])).up 0 [] ≡ up_line w 0 ++ said.Value (register_value w.ioc.door reg) ∷ []
+        line_now =
             ap (λ ys. map said_of (up_on w 0) ++ ys) (get_or-set_any w.ioc.up 0 0 (outbox_of w.ioc 0 ++ said.Value (register_value w.ioc.door reg) ∷ []) [] ∙ ap (λ a. cond a (outbox_of w.ioc 0 ++ said.Value (register_value w.ioc.door reg) ∷ []) (get_or w.ioc.up 0 [])) some_queue)
             ∙ sym (append_assoc (map said_of (up_on w 0)) (outbox_of w.ioc 0) (said.Value (register_value w.ioc.door reg) ∷ []))
 
@@ -356,9 +350,6 @@ module _ (w : World) (h : History) (b : Before w h) (s : StartsStand w) (l : Han
         (subst (λ r. IsTalk (queues_of w) (value_heard (talk_with h.door.talk w.host.out) r (register_value w.ioc.door reg))) (sym awaited)
         (subst (IsTalk (queues_of w)) (by_test (reg == DOORBELL) refl) old))
       where
-        C : Talk
-        C = talk_with h.door.talk w.host.out
-
         old : IsTalk (queues_of w) (value_heard (talk_with h.door.talk w.host.out) (Some reg) (doorbell_value w.ioc.door))
         old =
             subst (λ n. IsTalk (queues_of w) (value_heard (talk_with h.door.talk w.host.out) (Some reg) n)) (ap (λ o. given o (door_ahead w)) (no_first (up_line w 0) no_values) ∙ given_core None (door_ahead w) w.ioc.door (quiet_ahead w.ioc (down_line w) quiet))
@@ -464,10 +455,6 @@ module _ (w : World) (h : History) (b : Before w h) (s : StartsStand w) (l : Han
   module _ (x : Down) (rest : List Down) (e : w.host.out ≡ x ∷ rest) where
     line_same : (w.down ++ x ∷ []) ++ rest ≡ down_line w
     line_same = append_assoc w.down (x ∷ []) rest ∙ ap (λ xs. w.down ++ xs) (sym e)
-
-    -- what leaves the outbox
-    abbrev Put : Host → Talk → Option ℕ → Type 0
-    Put y c r = TalkHolds (queues_of w) y w.ioc.generation (given (value_coming w) (written_ahead w.ioc ((w.down ++ x ∷ []) ++ rest)).door) c r h.door.asked
 
     bell : given (value_coming w) (written_ahead w.ioc ((w.down ++ x ∷ []) ++ rest)).door ≡ given (value_coming w) (door_ahead w)
     bell = ap (λ xs. given (value_coming w) (written_ahead w.ioc xs).door) line_same

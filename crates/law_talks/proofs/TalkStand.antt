@@ -1,5 +1,5 @@
 -- What is shown of the words of a handshake, over all cases.
-use Rattle.std.proofs.Common.{◌≡◌, ℕ, length, length-set, refl, sym, ◌∙◌, subst}
+use Rattle.std.proofs.Common.{◌≡◌, length, length-set, refl, sym, ◌∙◌, subst}
 use Rattle.mpt_rules.specs.Law.{NothingIsStrange}
 use Rattle.mpt_rules.specs.Host.Parts.{host_queue_count}
 use Rattle.mpt_rules.specs.World.Cases.{Case, entries, happens}

@@ -1,13 +1,13 @@
 -- What the turn of a handshake's machine makes of the talk.
-use Rattle.std.proofs.Common.{◌≡◌, ℕ, zero, suc, ◌+◌, ◌*◌, ◌/◌, ◌%◌, ◌^◌, ◌<◌, ◌≤◌, ◌==◌, ◌&&◌, ◌||◌, ◌⊎◌, inl, inr, nat_le, not, Bool, true, false, if◌then◌else◌, List, [], ◌∷◌, ◌++◌, append-nil, append_assoc, drop, length, length-append, take, Option, Some, None, refl, ap, sym, ◌∙◌, subst, arith}
-use Rattle.std.proofs.lemmas.Bool.{eqb-true, le-leb, ne_eqb}
+use Rattle.std.proofs.Common.{◌≡◌, ℕ, ◌*◌, ◌/◌, ◌%◌, ◌^◌, ◌<◌, ◌≤◌, ◌==◌, ◌⊎◌, inl, inr, Bool, true, false, if◌then◌else◌, List, [], ◌∷◌, ◌++◌, append-nil, append_assoc, drop, length, Some, refl, ap, sym, ◌∙◌, subst, arith}
+use Rattle.std.proofs.lemmas.Bool.{le-leb, ne_eqb}
 use Rattle.byteorder.specs.Endian.{little_bytes, little_number}
 use Rattle.mpi_doorbell.specs.Bytes.{has, padded}
 use Rattle.mpi_doorbell.specs.DoorRegisters.{DoorRegisters, register_value}
 use Rattle.mpi_doorbell.specs.Handshake.{Handshake, Idle, Collects, Asked, Replies}
 use Rattle.mpi_doorbell.specs.HostDoor.{HostDoor, Stepped, reads, refuses, register_of, writes}
 use Rattle.mpi_doorbell.specs.HostHandshake.{hears_end, is_bad_length, is_whole, opening_dword, takes_word, with_word}
-use Rattle.mpi_doorbell.specs.declared.registers.TheConstants.{DOORBELL, DOORBELL_USED, HOST_INTERRUPT_STATUS, IOC2SYS_DB_STATUS, SYS2IOC_DB_STATUS, WRITE_SEQUENCE}
+use Rattle.mpi_doorbell.specs.declared.registers.TheConstants.{DOORBELL, DOORBELL_USED, HOST_INTERRUPT_STATUS, IOC2SYS_DB_STATUS, SYS2IOC_DB_STATUS}
 use Rattle.mpi_doorbell.specs.declared.stage.Reading.{Reading}
 use Rattle.mpi_doorbell.specs.declared.stage.Reading.TheVariants as reading
 use Rattle.mpi_doorbell.specs.declared.stage.Stage.{Stage as DoorStage}
@@ -17,8 +17,7 @@ use Rattle.mpi_doorbell.specs.declared.step.DoorStep.{DoorStep}
 use Rattle.mpi_doorbell.specs.declared.step.DoorStep.TheVariants as step
 use Rattle.mpi_doorbell.proofs.HostRuns.{FirstDword, first_dword}
 use Rattle.mpt_messages.specs.declared.host_ask.HostAsk.{HostAsk}
-use Rattle.mpt_messages.specs.declared.host_ask.HostAsk.TheVariants as ask
-use Rattle.mpt_wire.specs.Messages.DoorbellWords.{IsBegun, IsDoorAsk, IsDoorReply, IsTalk, Quiet, Talk, Talks, asked_bytes, doorbell_written, has_been_sent, is_over, opened, replied_bytes, value_heard, word_heard, written}
+use Rattle.mpt_wire.specs.Messages.DoorbellWords.{IsDoorAsk, IsDoorReply, IsTalk, Quiet, Talk, Talks, asked_bytes, doorbell_written, has_been_sent, is_over, opened, replied_bytes, value_heard, word_heard}
 use Rattle.mpt_trace.specs.declared.item.Down.{Down}
 use Rattle.mpt_trace.specs.declared.item.Down.TheVariants as down
 use Rattle.mpt_rules.specs.Host.Doorbell.{DoorTurn, turn_from}
@@ -27,7 +26,7 @@ use Rattle.law_facts.specs.DoorAhead.{awaits, written_ahead}
 use Rattle.law_facts.specs.Ties.{IsSaid, SaidAt, talk_with}
 use Rattle.law_starts.proofs.QueuesTurns.{AsksFor, ForFacts, ForInit, ForPortFacts}
 use Rattle.law_starts.proofs.Resetting.{TurnAt}
-use Rattle.law_locks.specs.Locks.{Collected, HeardOut, IsHearing, IsSending, IsUnopened, ShakesAt, reply_due}
+use Rattle.law_locks.specs.Locks.{Collected, HeardOut, IsHearing, IsSending, ShakesAt, reply_due}
 use Rattle.law_locks.proofs.Asks.{AskFits, ask_is}
 use Rattle.law_locks.proofs.Rounds.{Goes, GoesOn, TurnGoes, all_sent_turn, bell_is, bytes_left, end_turn, interrupt_read, news_turn, none_left_turn, opened_turn, sent_turn, taken_read, turn_goes, unused, used_turn, word_turn}
 use Rattle.law_talks.specs.Talking.{TalkGoesOn}

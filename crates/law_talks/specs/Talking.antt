@@ -1,5 +1,5 @@
 -- Further facts of the words of a handshake: what the writes that are to be put make of it.
-use Rattle.std.specs.Prelude.{◌≡◌, ℕ, ◌==◌, List, [], ◌∷◌, Option, Some, None, true}
+use Rattle.std.specs.Prelude.{◌≡◌, ℕ, ◌==◌, List, [], ◌∷◌, Some, None, true}
 use Rattle.std.specs.Bool.{MatchBool}
 use Rattle.mpi_doorbell.specs.declared.registers.TheConstants.{WRITE_SEQUENCE}
 use Rattle.mpt_wire.specs.Messages.DoorbellWords.{IsTalk, MayCut, Talk, is_over, written}
