@@ -5,3 +5,7 @@ pub mod HostLines
 pub mod Lines
 pub mod Removed
 pub mod Unbinds
+pub mod HostBehaves
+pub mod Lasts
+pub mod LastsKept
+pub mod PagesBound

@@ -3,5 +3,7 @@
 
 mod laws;
 
+pub use laws::lasts_are_kept;
+pub use laws::pages_are_bound;
 pub use laws::removals_are_known;
 pub use laws::unbinds_pass;
