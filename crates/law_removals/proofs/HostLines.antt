@@ -30,7 +30,7 @@ use Rattle.mpt_rules.specs.Host.Resets as resets
 use Rattle.mpt_rules.specs.Host.Takes.{is_starting}
 use Rattle.mpt_rules.specs.World.Lines.{high_posts, is_high, normal_posts}
 use Rattle.mpt_rules.specs.World.State.{World}
-use Rattle.law_facts.specs.Clock.{is_linked_up}
+use Rattle.law_facts.specs.Clock.{in_normal, is_linked_up}
 use Rattle.law_facts.specs.Facts.{Facts}
 use Rattle.law_facts.specs.Handles.{phase_of}
 use Rattle.law_facts.specs.History.{History}
@@ -57,7 +57,7 @@ module _ (w : World) (hand : ℕ) where
   abbrev pub FreshHigh : Host → Post → Slot Request → Type 0
   FreshHigh k p (Open (request.Leave g)) = Unit {0}
   FreshHigh k p (Open (request.Abort n task)) = Unit {0}
-  FreshHigh k p (Open (request.TargetReset a)) = IsHandle (dev_handle_in p.frame) × (phase_of w (dev_handle_in p.frame) ≡ phase.Ready a) × (phase_at k.phases (dev_handle_in p.frame) ≡ phase.Ready a)
+  FreshHigh k p (Open (request.TargetReset a)) = IsHandle (dev_handle_in p.frame) × (phase_of w (dev_handle_in p.frame) ≡ phase.Ready a) × (phase_at k.phases (dev_handle_in p.frame) ≡ phase.Ready a) × (in_normal w ≡ true)
   FreshHigh k p x = ⊥
 
   pub record Grew (k : Host) : Type 0 where
@@ -193,7 +193,7 @@ module _ (w : World) (h : History) (f : Facts w h) where
       let y = ready_phase w.host.phases address handle f.flights.sizes.phases r in
       let t = handle_of_reset handle y.0 in
       MoreOf (ap (λ (x : Host). is_starting x.mode || is_up x.mode) e ∙ up_goes w.host.mode u) (high_call k s (request.TargetReset address) (asks.frame_asked (ask.Task handle target_reset 0)) (omega (arith, i)) (omega (arith, i)) (ap (λ (x : Host). x.pool) e) (ap (λ (x : Host). x.phases) e) (ap (λ (x : Host). x.out) e)
-      (subst IsHandle (sym t) y.0, ap (phase_of w) t ∙ y.1, ap (phase_at k.phases) t ∙ (ap (λ (x : Host). phase_at x.phases handle) e ∙ y.1)))
+      (subst IsHandle (sym t) y.0, ap (phase_of w) t ∙ y.1, ap (phase_at k.phases) t ∙ (ap (λ (x : Host). phase_at x.phases handle) e ∙ y.1), up_goes w.host.mode u))
   by_does k (Accepts s n address handle command u c r free e) =
       let i = (least_is class.ScsiIo w.host.pool s free).inside in
       let y = ready_phase w.host.phases address handle f.flights.sizes.phases r in

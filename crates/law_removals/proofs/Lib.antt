@@ -9,3 +9,4 @@ pub mod HostBehaves
 pub mod Lasts
 pub mod LastsKept
 pub mod PagesBound
+pub mod ResetsBound

@@ -110,7 +110,7 @@ page_named g (Open request.PortEnable) t = absurd (cc)
 page_named g Free t = absurd (cc)
 page_named g Parked t = absurd (cc)
 
-post_is_load : (x : Down) → is_post x ≡ true → is_load x ≡ true
+pub post_is_load : (x : Down) → is_post x ≡ true → is_load x ≡ true
 post_is_load (down.Post d f p) e = refl
 post_is_load (down.Write reg value) e = absurd (cc)
 post_is_load (down.Read reg) e = absurd (cc)

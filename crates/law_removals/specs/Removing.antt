@@ -1,10 +1,11 @@
 -- The facts of removals that are shown of the world behind a case.
-use Rattle.std.specs.Prelude.{◌≡◌, ℕ, ◌≤◌}
+use Rattle.std.specs.Prelude.{◌≡◌, ℕ, ◌≤◌, true, All}
 use Rattle.removal.specs.Handles.{IsHandle}
 use Rattle.mpt_rules.specs.World.Counts.{how_many}
-use Rattle.mpt_rules.specs.World.Lines.{normal_line}
+use Rattle.mpt_rules.specs.World.Lines.{high_line, normal_line}
 use Rattle.mpt_rules.specs.World.State.{World}
-use Rattle.law_facts.specs.Handles.{PageIsBound, RemovalIsKnown, is_remove_post, removes, uses_handle}
+use Rattle.law_facts.specs.Clock.{is_live}
+use Rattle.law_facts.specs.Handles.{PageIsBound, RemovalIsKnown, ResetIsBound, is_remove_post, removes, uses_handle}
 use Rattle.law_facts.specs.History.{History}
 use Rattle.law_facts.specs.Words.{behind, slot}
 
@@ -23,3 +24,7 @@ LastsInLine w = (handle : ℕ) → IsHandle handle → LastInLine w handle
 -- a page read that is on its way has a bound handle
 abbrev pub PagesAreBound : World → Type 0
 PagesAreBound w = (handle : ℕ) → IsHandle handle → PageIsBound w handle
+
+-- a target reset that is on its way has a handle that is bound to its address, and that of a removal a gone one
+abbrev pub ResetsAreBound : World → Type 0
+ResetsAreBound w = is_live w ≡ true → All (ResetIsBound w) (high_line w)

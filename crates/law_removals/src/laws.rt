@@ -8,7 +8,7 @@ ghost use Rattle.law_facts.specs.Facts.{Facts};
 ghost use Rattle.law_facts.specs.History.{History, history_after};
 ghost use Rattle.law_messages.specs.Numbers.{AbortsAreAccepted};
 ghost use Rattle.law_places.specs.Further.{VectorsFit};
-ghost use Rattle.law_removals.specs.Removing.{LastsInLine, PagesAreBound, RemovalsKnown};
+ghost use Rattle.law_removals.specs.Removing.{LastsInLine, PagesAreBound, RemovalsKnown, ResetsAreBound};
 
 /// Where all facts hold of a world, nothing on its way is strange to its host, each open abort is of a number that was accepted and no IOC Init asked for
 /// more reply queues than there are, the rule of removals knows each remove device that is queued, in the world that any case leads to.
@@ -29,4 +29,9 @@ pub fn lasts_are_kept()
 /// With the same premises, each page read that is on its way to a controller that is OPERATIONAL, or queued there, has a handle that is bound.
 pub fn pages_are_bound()
     ensures { (w : World) (h : History) (c : Case) → Facts w h → NothingIsStrange w → AbortsAreAccepted w → VectorsFit w → PagesAreBound (happens w c) }
+{}
+
+/// With the same premises, each target reset that is on its way to a controller that is OPERATIONAL, or queued there, has a handle that is bound to the address for which it was asked; that of a removal has a handle whose disk is gone.
+pub fn resets_are_bound()
+    ensures { (w : World) (h : History) (c : Case) → Facts w h → NothingIsStrange w → AbortsAreAccepted w → VectorsFit w → ResetsAreBound (happens w c) }
 {}

@@ -6,4 +6,5 @@ mod laws;
 pub use laws::lasts_are_kept;
 pub use laws::pages_are_bound;
 pub use laws::removals_are_known;
+pub use laws::resets_are_bound;
 pub use laws::unbinds_pass;
