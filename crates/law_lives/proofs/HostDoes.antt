@@ -6,7 +6,7 @@ use Rattle.std.specs.List.{fold, list_any, range_with_len}
 use Rattle.std.proofs.lemmas.List.Folds.{list_any-append}
 use Rattle.scsi_disk.specs.Command.{fits}
 use Rattle.scsi_disk.specs.declared.command.Command.{Command}
-use Rattle.smid_pool.specs.Pool.{Slot, least_free, record_of}
+use Rattle.smid_pool.specs.Pool.{Slot, least_free}
 use Rattle.smid_pool.specs.declared.class.Class.TheVariants as class
 use Rattle.removal.specs.Handles.{ready_handle}
 use Rattle.removal.specs.declared.phase.Phase.{Phase}
@@ -22,7 +22,7 @@ use Rattle.mpt_messages.specs.HostFrames.{host_message}
 use Rattle.mpt_messages.specs.declared.host_ask.HostAsk.{HostAsk}
 use Rattle.mpt_messages.specs.declared.host_ask.HostAsk.TheVariants as ask
 use Rattle.mpt_wire.specs.Machine.Causes.{is_resetting, is_up}
-use Rattle.mpt_wire.specs.Messages.Fields.{frame_address_in, smid_in, target_reset}
+use Rattle.mpt_wire.specs.Messages.Fields.{frame_address_in, target_reset}
 use Rattle.mpt_wire.specs.Walks.Cycles.{is_reset_end}
 use Rattle.mpt_trace.specs.Command.{command_named}
 use Rattle.mpt_trace.specs.declared.entry.Entry.TheVariants as entry
@@ -34,7 +34,6 @@ use Rattle.mpt_trace.specs.declared.item.Down.{Down}
 use Rattle.mpt_trace.specs.declared.item.Down.TheVariants as down
 use Rattle.mpt_trace.specs.declared.item.Up.{Up}
 use Rattle.mpt_trace.specs.declared.item.Up.TheVariants as upward
-use Rattle.mpt_rules.specs.declared.post.Post.{Post}
 use Rattle.mpt_rules.specs.declared.request.Request.{Request}
 use Rattle.mpt_rules.specs.declared.request.Request.TheVariants as request
 use Rattle.mpt_rules.specs.declared.stage.Stage.{Stage}
@@ -60,9 +59,8 @@ use Rattle.law_facts.specs.Clock.{is_linked_up}
 use Rattle.law_facts.specs.DoorAhead.{IsInMode, WaitsAt}
 use Rattle.law_facts.specs.Facts.{Facts}
 use Rattle.law_facts.specs.History.{History}
-use Rattle.law_facts.specs.Words.{is_post, slot}
+use Rattle.law_facts.specs.Words.{is_post}
 use Rattle.law_flights.proofs.HostTold.{ends_reset_told}
-use Rattle.law_moves.proofs.Cases.{IsHosts}
 use Rattle.law_moves.proofs.Counted.{how_many-cons, how_many-nil}
 use Rattle.law_places.proofs.Premises.{last}
 
@@ -87,8 +85,14 @@ itself x = record { pool_is = refl; phases_are = refl; cmds_are = refl; high_is 
 pub further : (x y z : Host) → Alike x y → Alike y z → Alike x z
 further x y z a b =
     record {
-      pool_is = b.pool_is ∙ a.pool_is; phases_are = b.phases_are ∙ a.phases_are; cmds_are = b.cmds_are ∙ a.cmds_are; high_is = b.high_is ∙ a.high_is;
-      internal_is = b.internal_is ∙ a.internal_is; mode_is = b.mode_is ∙ a.mode_is; normal_out = b.normal_out ∙ a.normal_out; high_out = b.high_out ∙ a.high_out;
+      pool_is = b.pool_is ∙ a.pool_is;
+      phases_are = b.phases_are ∙ a.phases_are;
+      cmds_are = b.cmds_are ∙ a.cmds_are;
+      high_is = b.high_is ∙ a.high_is;
+      internal_is = b.internal_is ∙ a.internal_is;
+      mode_is = b.mode_is ∙ a.mode_is;
+      normal_out = b.normal_out ∙ a.normal_out;
+      high_out = b.high_out ∙ a.high_out;
     }
 
 -- ---- items that are no posts
@@ -122,7 +126,12 @@ append_none (x ∷ xs) ys e = ap (λ zs. x ∷ zs) (append_none xs ys e)
 pub items : (x y : Host) (xs : List Down) → how_many is_post xs ≡ 0 → Alike x y → Alike x (record y { out = y.out ++ xs })
 items x y xs z a =
     record {
-      pool_is = a.pool_is; phases_are = a.phases_are; cmds_are = a.cmds_are; high_is = a.high_is; internal_is = a.internal_is; mode_is = a.mode_is;
+      pool_is = a.pool_is;
+      phases_are = a.phases_are;
+      cmds_are = a.cmds_are;
+      high_is = a.high_is;
+      internal_is = a.internal_is;
+      mode_is = a.mode_is;
       normal_out = normal_posts-append y.out xs ∙ (append_none (normal_posts y.out) (normal_posts xs) (none_normal xs z) ∙ a.normal_out);
       high_out = high_posts-append y.out xs ∙ (append_none (high_posts y.out) (high_posts xs) (none_high xs z) ∙ a.high_out);
     }

@@ -1,5 +1,5 @@
 -- What is on its way leads from each handle's phase to its binding, in every case.
-use Rattle.std.proofs.Common.{◌≡◌, ℕ, zero, suc, ◌+◌, ◌-◌, ◌≤◌, ◌==◌, get_or, length, is_some, slice_get, ◌&&◌, ◌||◌, Bool, true, false, if◌then◌else◌, List, [], ◌∷◌, ◌++◌, map, Option, Some, None, refl, ap, sym, ◌∙◌, subst, arith, append_assoc, get_or-set_same, get_or-set_other}
+use Rattle.std.proofs.Common.{◌≡◌, ℕ, zero, suc, ◌+◌, ◌-◌, ◌≤◌, get_or, length, is_some, slice_get, ◌&&◌, ◌||◌, Bool, true, false, if◌then◌else◌, List, [], ◌∷◌, ◌++◌, map, Option, Some, None, refl, ap, sym, ◌∙◌, subst, arith, append_assoc, get_or-set_same, get_or-set_other}
 use Rattle.std.specs.Prelude.{All}
 use Rattle.std.proofs.lemmas.List.Elements.{All-head}
 use Rattle.smid_pool.specs.Pool.{Slot, Free, Open, Parked, least_free, record_of}
@@ -18,7 +18,6 @@ use Rattle.mpt_trace.specs.declared.choice.Choice.TheVariants as choice
 use Rattle.mpt_trace.specs.declared.host_state.HostState.{HostState}
 use Rattle.mpt_trace.specs.declared.host_state.HostState.TheVariants as state
 use Rattle.mpt_trace.specs.declared.input.Input.{Input}
-use Rattle.mpt_trace.specs.declared.input.Input.TheVariants as input
 use Rattle.mpt_trace.specs.declared.item.Down.{Down}
 use Rattle.mpt_trace.specs.declared.item.Down.TheVariants as down
 use Rattle.mpt_trace.specs.declared.item.Up.{Up}
@@ -27,11 +26,9 @@ use Rattle.mpt_rules.specs.declared.request.Request.{Request}
 use Rattle.mpt_rules.specs.declared.request.Request.TheVariants as request
 use Rattle.mpt_rules.specs.declared.said.Said.{Said}
 use Rattle.mpt_rules.specs.declared.said.Said.TheVariants as said
-use Rattle.mpt_rules.specs.declared.why.Why.{Why}
 use Rattle.mpt_rules.specs.Host.Parts.{Host}
 use Rattle.mpt_rules.specs.Host.Posts as asks
 use Rattle.mpt_rules.specs.Host.Replies as replies
-use Rattle.mpt_rules.specs.Host.Resets as resets
 use Rattle.mpt_rules.specs.Host.Returns.{after_sent}
 use Rattle.mpt_rules.specs.Host.Takes.{hears_up, is_starting, looks, stops}
 use Rattle.mpt_rules.specs.Ioc.Parts.{Ioc, state_of}
@@ -44,7 +41,7 @@ use Rattle.mpt_rules.specs.Ioc.Steps as step
 use Rattle.mpt_rules.specs.Ioc.Tables.{binding_of, first_handle, is_operational, is_ready, is_unbound}
 use Rattle.mpt_rules.specs.Ioc.Takes.{takes_down}
 use Rattle.mpt_rules.specs.Law.{NothingIsStrange}
-use Rattle.mpt_rules.specs.World.Cases.{Case, Told, Chosen, HostLooks, HostStops, FabricCalms, happens, is_free, looks_if, stops_if, moves_or_idles}
+use Rattle.mpt_rules.specs.World.Cases.{Case, happens, moves_or_idles}
 use Rattle.mpt_rules.specs.World.Counts.{how_many, one_if}
 use Rattle.mpt_rules.specs.World.Inputs.{host_told}
 use Rattle.mpt_rules.specs.World.Lines.{said_of, said_reply, up_line}
@@ -57,7 +54,6 @@ use Rattle.law_facts.specs.Handles.{LifeOfHandle, Vacant, freed_in, phase_of, re
 use Rattle.law_facts.specs.History.{History}
 use Rattle.law_facts.specs.Messages.{AnswersBy, SaidIs}
 use Rattle.law_facts.specs.Words.{is_off, is_reply, others, slot}
-use Rattle.law_flights.proofs.HostMoves.{mode_asks}
 use Rattle.law_moves.proofs.Cases.{Owes, kept}
 use Rattle.law_moves.proofs.Counted.{how_many-cons}
 use Rattle.law_moves.proofs.HostGoes as goes

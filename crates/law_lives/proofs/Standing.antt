@@ -1,5 +1,4 @@
 -- The facts of phases and bindings, gathered from where they are shown.
-use Rattle.std.proofs.Common.{ℕ}
 use Rattle.mpt_rules.specs.World.Cases.{Case, entries, happens}
 use Rattle.mpt_rules.specs.World.State.{World}
 use Rattle.law_facts.specs.Facts.{Facts}

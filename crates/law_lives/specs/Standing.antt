@@ -1,5 +1,5 @@
 -- The facts of phases and bindings that are shown of the world behind a case.
-use Rattle.std.specs.Prelude.{◌≡◌, ℕ, ◌≤◌, true, List, map, length, Some, None, All}
+use Rattle.std.specs.Prelude.{◌≡◌, ℕ, ◌≤◌, true, map, length, Some, None, All}
 use Rattle.removal.specs.Handles.{IsHandle}
 use Rattle.mpt_wire.specs.Handles.Bindings.{Plug}
 use Rattle.mpt_rules.specs.Ioc.Tables.{binding_of, is_unbound}

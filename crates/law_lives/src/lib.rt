@@ -3,6 +3,4 @@
 
 mod laws;
 
-pub use laws::phases_are_kept;
-pub use laws::bindings_are_kept;
-pub use laws::lives_are_kept;
+pub use laws::{bindings_are_kept, lives_are_kept, phases_are_kept};
