@@ -1,6 +1,5 @@
 -- What is known of the world behind a case, and that what has a post or waits keeps its record.
-use Rattle.std.proofs.Common.{◌≡◌, ◌≢◌, ℕ, zero, suc, ◌+◌, ◌≤◌, Bool, true, false, List, [], ◌∷◌, sum_by, refl, ap, sym, ◌∙◌, subst, arith}
-use Rattle.std.specs.Prelude.{All}
+use Rattle.std.proofs.Common.{◌≡◌, ◌≢◌, ℕ, zero, suc, ◌+◌, ◌≤◌, Bool, true, false, sum_by, refl, ap, sym, ◌∙◌, subst, arith}
 use Rattle.std.specs.FinMap as finmap
 use Rattle.smid_pool.specs.Pool.{Slot, Free, Open, Parked, is_open}
 use Rattle.mpt_rules.specs.declared.request.Request.{Request}

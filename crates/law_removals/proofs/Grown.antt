@@ -1,9 +1,9 @@
 -- What a host that goes on normally makes of a reply: the posts that it puts behind those of its outbox, and what the phases of their handles are.
-use Rattle.std.proofs.Common.{◌≡◌, ◌≢◌, ℕ, zero, suc, ◌+◌, ◌-◌, ◌<◌, ◌≤◌, ◌==◌, ◌&&◌, cond, Bool, true, false, if◌then◌else◌, List, [], ◌∷◌, ◌++◌, length, set, length-set, Option, Some, None, refl, ap, sym, ◌∙◌, subst, arith, append_assoc, append-nil}
+use Rattle.std.proofs.Common.{◌≡◌, ℕ, ◌-◌, ◌<◌, ◌≤◌, ◌==◌, cond, Bool, true, false, if◌then◌else◌, List, [], ◌∷◌, ◌++◌, length, set, length-set, Option, Some, None, refl, ap, sym, ◌∙◌, subst, arith, append_assoc, append-nil}
 use Rattle.std.specs.Prelude.{All}
 use Rattle.std.specs.FinMap as finmap
 use Rattle.std.proofs.lemmas.Bool.{eqb-true}
-use Rattle.std.proofs.lemmas.List.Elements.{All-head, All-nil, All-tail}
+use Rattle.std.proofs.lemmas.List.Elements.{All-head, All-nil}
 use Rattle.smid_pool.specs.Pool.{Slot, Free, Open, Parked, is_open, least_free, record_of, slot_of}
 use Rattle.smid_pool.specs.declared.class.Class.TheVariants as class
 use Rattle.removal.specs.Handles.{IsHandle, phase_at, with_phase}
@@ -17,8 +17,6 @@ use Rattle.mpt_wire.specs.Machine.Causes.{is_resetting}
 use Rattle.mpt_wire.specs.Messages.Fields.{Change, changes_in, event_context_in, event_in, post_descriptor, smid_in, target_added, target_not_responding, target_reset}
 use Rattle.mpt_trace.specs.declared.item.Down.{Down}
 use Rattle.mpt_trace.specs.declared.item.Down.TheVariants as down
-use Rattle.mpt_trace.specs.declared.item.Up.{Up}
-use Rattle.mpt_trace.specs.declared.item.Up.TheVariants as upward
 use Rattle.mpt_rules.specs.declared.post.Post.{Post}
 use Rattle.mpt_rules.specs.declared.request.Request.{Request}
 use Rattle.mpt_rules.specs.declared.request.Request.TheVariants as request
@@ -26,7 +24,6 @@ use Rattle.mpt_rules.specs.Host.Parts.{Host}
 use Rattle.mpt_rules.specs.Host.Posts as asks
 use Rattle.mpt_rules.specs.Host.Removal as removal
 use Rattle.mpt_rules.specs.Host.Replies as replies
-use Rattle.mpt_rules.specs.Host.Takes.{hears_up}
 use Rattle.mpt_rules.specs.World.Counts.{how_many, one_if}
 use Rattle.mpt_rules.specs.World.Lines.{high_posts, is_high, normal_posts}
 use Rattle.mpt_rules.specs.World.State.{World}
@@ -38,7 +35,6 @@ use Rattle.law_facts.specs.History.{History}
 use Rattle.law_facts.specs.Words.{slot, waits_for_page, waits_to_remove}
 use Rattle.law_flights.proofs.Descriptors.{smid_posted}
 use Rattle.law_flights.proofs.HostHolds.{class_within, in_table, slot_of-set}
-use Rattle.law_flights.proofs.HostMoves.{mode_asks, mode_change}
 use Rattle.law_flights.proofs.Least.{least_is}
 use Rattle.law_handles.proofs.Phased.{phase_at-with}
 use Rattle.law_messages.proofs.Agreeing.{all_more, all_same}
@@ -166,9 +162,15 @@ module _ (w : World) (hand : ℕ) where
   pub no_posts : (x : Host) → IsBare x → Grows x
   no_posts x b =
       record {
-        table = b.table; handles = b.handles; normal_news = []; high_news = [];
-        normal_is = b.normal_same ∙ sym (append-nil (normal_posts w.host.out)); high_is = b.high_same ∙ sym (append-nil (high_posts w.host.out));
-        normal_new = All-nil (λ (p : Post). NewNormal x.phases (slot_of x.pool (smid_in p.descriptor))); high_new = All-nil (λ (p : Post). NewHigh (slot_of x.pool (smid_in p.descriptor))); waits = b.waits;
+        table = b.table;
+        handles = b.handles;
+        normal_news = [];
+        high_news = [];
+        normal_is = b.normal_same ∙ sym (append-nil (normal_posts w.host.out));
+        high_is = b.high_same ∙ sym (append-nil (high_posts w.host.out));
+        normal_new = All-nil (λ (p : Post). NewNormal x.phases (slot_of x.pool (smid_in p.descriptor)));
+        high_new = All-nil (λ (p : Post). NewHigh (slot_of x.pool (smid_in p.descriptor)));
+        waits = b.waits;
       }
 
   closes : (x : Host) (s : ℕ) (y : Slot Request) → IsBare x → IsBare (record x { pool = set x.pool (s - 1) y })
@@ -178,7 +180,12 @@ module _ (w : World) (hand : ℕ) where
   bare_phased : (x : Host) (g0 : ℕ) (p : Phase) → IsHandle g0 → (p ≡ phase.WaitInternal → LeftBy g0) → (phase_of w g0 ≡ phase.WaitRead → p ≡ phase.WaitRead) → IsBare x → IsBare (record x { phases = with_phase x.phases g0 p })
   bare_phased x g0 p i u v b =
       record {
-        table = b.table; handles = length-set x.phases _ _ ∙ b.handles; normal_same = b.normal_same; high_same = b.high_same; internal_same = b.internal_same; high_wait = b.high_wait;
+        table = b.table;
+        handles = length-set x.phases _ _ ∙ b.handles;
+        normal_same = b.normal_same;
+        high_same = b.high_same;
+        internal_same = b.internal_same;
+        high_wait = b.high_wait;
         waits = λ g j e. waits_by g j e (g == g0) refl (phase_at-with x.phases g0 g p b.handles i j);
         reads = λ g j e. reads_by g j e (g == g0) refl (phase_at-with x.phases g0 g p b.handles i j);
       }
@@ -269,7 +276,12 @@ module _ (w : World) (hand : ℕ) where
   phased : (x : Host) (g0 : ℕ) (p : Phase) → IsHandle g0 → (is_out_there (phase_at x.phases g0) ≡ true → is_out_there p ≡ true) → (p ≡ phase.WaitInternal → ⊥) → Grows x → Grows (record x { phases = with_phase x.phases g0 p })
   phased x g0 p i u v g =
       record {
-        table = g.table; handles = length-set x.phases _ _ ∙ g.handles; normal_news = g.normal_news; high_news = g.high_news; normal_is = g.normal_is; high_is = g.high_is;
+        table = g.table;
+        handles = length-set x.phases _ _ ∙ g.handles;
+        normal_news = g.normal_news;
+        high_news = g.high_news;
+        normal_is = g.normal_is;
+        high_is = g.high_is;
         normal_new = all_same (λ (q : Post). NewNormal x.phases (slot_of x.pool (smid_in q.descriptor))) (λ (q : Post). NewNormal (with_phase x.phases g0 p) (slot_of x.pool (smid_in q.descriptor))) (λ q n. still (slot_of x.pool (smid_in q.descriptor)) n) g.normal_news g.normal_new;
         high_new = g.high_new;
         waits = λ k j e. waits_by k j e (k == g0) refl (phase_at-with x.phases g0 k p g.handles i j);

@@ -1,8 +1,6 @@
 -- In each case of the host its line of posts keeps what it had, but for what a reset drops, with what is new behind that.
 use Rattle.std.proofs.Common.{◌≡◌, ℕ, zero, suc, ◌+◌, ◌≤◌, ◌||◌, Bool, true, false, List, [], ◌∷◌, ◌++◌, map, Option, Some, None, refl, ap, sym, ◌∙◌, subst, arith, append_assoc, append-nil}
 use Rattle.std.specs.Prelude.{All}
-use Rattle.smid_pool.specs.Pool.{record_of}
-use Rattle.removal.specs.Handles.{IsHandle}
 use Rattle.mpt_wire.specs.Machine.Causes.{is_resetting, is_up}
 use Rattle.mpt_wire.specs.Messages.Fields.{smid_in}
 use Rattle.mpt_trace.specs.declared.host_state.HostState.{HostState}
@@ -14,28 +12,24 @@ use Rattle.mpt_trace.specs.declared.item.Up.TheVariants as upward
 use Rattle.mpt_rules.specs.declared.post.Post.{Post}
 use Rattle.mpt_rules.specs.Host.Parts.{Host}
 use Rattle.mpt_rules.specs.Host.Replies as replies
-use Rattle.mpt_rules.specs.Host.Returns.{after_sent}
 use Rattle.mpt_trace.specs.declared.input.Input.{Input}
 use Rattle.mpt_rules.specs.Host.Takes.{hears_up, is_starting, looks, stops}
 use Rattle.mpt_rules.specs.World.Inputs.{host_told}
 use Rattle.mpt_rules.specs.Ioc.Replies.{outbox_of}
 use Rattle.mpt_rules.specs.Law.{NothingIsStrange}
-use Rattle.mpt_rules.specs.World.Cases.{Case, entries, happens}
-use Rattle.mpt_rules.specs.World.Counts.{how_many, one_if}
+use Rattle.mpt_rules.specs.World.Counts.{one_if}
 use Rattle.mpt_rules.specs.World.Lines.{down_line, high_line, high_posts, normal_line, normal_posts, said_of}
 use Rattle.mpt_rules.specs.World.State.{World, up_on, with_up}
 use Rattle.mpt_rules.proofs.Lines.{high_posts-append, normal_posts-append}
-use Rattle.law_facts.specs.Clock.{in_normal, is_linked_up}
+use Rattle.law_facts.specs.Clock.{in_normal}
 use Rattle.law_facts.specs.Facts.{Facts}
-use Rattle.law_facts.specs.History.{History, history_after}
+use Rattle.law_facts.specs.History.{History}
 use Rattle.law_facts.specs.Words.{is_calm_said, is_off, is_post, slot}
-use Rattle.law_moves.proofs.Cases.{Owes, kept}
 use Rattle.law_moves.proofs.Counted.{none_passes, others-cons}
 use Rattle.law_moves.proofs.HostSpeaks.{Rises, hands_back, is_enable, is_handed_back, says_back}
 use Rattle.law_moves.proofs.HostSpeaks as speaks
 use Rattle.law_lives.proofs.HostDoes as does
 use Rattle.law_lives.proofs.HostDoes.{Alike, HostDoes}
-use Rattle.law_removals.proofs.Behind.{After, clash}
 use Rattle.law_removals.proofs.Grown as grown
 use Rattle.law_removals.proofs.HostLines.{Anew, FreshHigh, FreshNormal, HostLine, LessOf, MoreOf, SameOf, by_does, of_reply}
 use Rattle.law_removals.proofs.Lines.{Part, part_append, part_itself, part_none}
@@ -140,7 +134,7 @@ module _ (w : World) (h : History) (f : Facts w h) (plain : NothingIsStrange w) 
           let n : in_normal w ≡ true = off_apart w.host.mode (not_off queue d o page sense rest e) m in
           let y = does.entry_taken w.host queue d o in
           let r = of_reply w (smid_in d) (hears_up w.host queue (upward.Reply d o page sense)).part
-              (grown.reply w h f n d (replies.takes_entry (replies.with_frame_heard w.host d o) queue) y (ap is_resetting y.mode_is ∙ m) (replies.heard_of d o page sense) (slot w.host (smid_in d)) refl) in
+          (grown.reply w h f n d (replies.takes_entry (replies.with_frame_heard w.host d o) queue) y (ap is_resetting y.mode_is ∙ m) (replies.heard_of d o page sense) (slot w.host (smid_in d)) refl) in
           let s = (says_back (is_enable (replies.request_of w.host (smid_in d))) w.host m queue d o page sense refl).rises in
           More (risen w.host.mode (hears_up w.host queue (upward.Reply d o page sense)).part.mode s n) (smid_in d) r.normal_news r.high_news (line_more (hears_up w.host queue (upward.Reply d o page sense)).part r.normal_news r.normal_is)
           (high_more (hears_up w.host queue (upward.Reply d o page sense)).part r.high_news r.high_is) r.normal_new r.high_new

@@ -6,7 +6,7 @@ use Rattle.std.specs.List.{filter, position}
 use Rattle.std.proofs.lemmas.Bool.{eqb-true}
 use Rattle.std.proofs.lemmas.List.Elements.{All-nil}
 use Rattle.std.proofs.lemmas.List.Quantifiers.{position-Some}
-use Rattle.smid_pool.specs.Pool.{Slot, Free, Open, Parked, is_open, slot_of}
+use Rattle.smid_pool.specs.Pool.{Slot, Free, Open, Parked, slot_of}
 use Rattle.smid_pool.specs.declared.class.Class.TheVariants as class
 use Rattle.removal.specs.Handles.{IsHandle, phase_at, ready_handle}
 use Rattle.removal.specs.Phases.{is_ready_at}
@@ -41,8 +41,8 @@ use Rattle.law_flights.proofs.Least.{least_is}
 use Rattle.law_messages.proofs.Agreeing.{all_one, all_same}
 use Rattle.law_messages.proofs.Keys.{get_inserted}
 use Rattle.law_messages.proofs.PostFields.{handle_of_reset}
-use Rattle.law_lives.proofs.HostDoes.{Accepts, Alike, AsksAbort, AsksTarget, Begins, GivesUp, HostDoes, Notifies, Renews, Rests}
-use Rattle.law_removals.proofs.Grown.{Grown, Grows, NewHigh, NewNormal, asks_internal, bare_of, high_flags, is_left_by, is_out_there, no_posts, one_high, one_normal}
+use Rattle.law_lives.proofs.HostDoes.{Accepts, AsksAbort, AsksTarget, Begins, GivesUp, HostDoes, Notifies, Renews, Rests}
+use Rattle.law_removals.proofs.Grown.{Grows, NewHigh, NewNormal, asks_internal, bare_of, high_flags, is_left_by, no_posts, one_high, one_normal}
 
 abbrev pub is_ready_phase : Phase → Bool
 is_ready_phase (phase.Ready address) = true
@@ -170,7 +170,8 @@ module _ (w : World) (h : History) (f : Facts w h) where
       let q = one_high w.host.out d fr [] (high_flags s (omega (arith, m))) in
       let is : smid_in d ≡ s = smid_posted post.HighPriority 0 s 0 (omega arith) (omega (arith, m)) in
       record {
-        normal_news = []; high_news = record { descriptor = d; frame = fr; payload = [] } ∷ [];
+        normal_news = [];
+        high_news = record { descriptor = d; frame = fr; payload = [] } ∷ [];
         normal_is = ap normal_posts o ∙ (q.1 ∙ sym (append-nil (normal_posts w.host.out)));
         high_is = ap high_posts o ∙ q.0;
         normal_new = All-nil (λ (x : Post). FreshNormal w 0 k (slot_of k.pool (smid_in x.descriptor)));
@@ -205,20 +206,21 @@ module _ (w : World) (h : History) (f : Facts w h) where
       let q = one_normal w.host.out d fr command.payload (command_flags ((s - 1) % host_queue_count w.host) s handle (omega (arith, m, few)) (omega (arith, i))) in
       let k1 : Host = inputs.with_accepted w.host n address command handle s in
       let fresh : FreshNormal w 0 k1 (Open (request.Command n)) = λ c0 z. (
-          let c1 : Cmd = record { smid = s; handle = handle } in
-          let g : Some c1 ≡ Some c0 = sym (get_inserted w.host.cmds n c1) ∙ z in
-          let same : handle ≡ c0.handle = ap handle_of g in
-          subst (λ j. is_ready_phase (phase_at w.host.phases j) ≡ true) same (ap is_ready_phase y.1)) in
+      let c1 : Cmd = record { smid = s; handle = handle } in
+      let g : Some c1 ≡ Some c0 = sym (get_inserted w.host.cmds n c1) ∙ z in
+      let same : handle ≡ c0.handle = ap handle_of g in
+      subst (λ j. is_ready_phase (phase_at w.host.phases j) ≡ true) same (ap is_ready_phase y.1)) in
       let grew : Grew w 0 k1 =
-          record {
-            normal_news = record { descriptor = d; frame = fr; payload = command.payload } ∷ []; high_news = [];
-            normal_is = q.0;
-            high_is = q.1 ∙ sym (append-nil (high_posts w.host.out));
-            normal_new = all_one (λ (x : Post). FreshNormal w 0 k1 (slot_of k1.pool (smid_in x.descriptor))) (record { descriptor = d; frame = fr; payload = command.payload })
-                (subst (FreshNormal w 0 k1) (sym (ap (slot_of k1.pool) is ∙ posted_at s (request.Command n) (omega (arith, i)) (omega (arith, i)))) fresh);
-            high_new = All-nil (λ (x : Post). FreshHigh w 0 k1 x (slot_of k1.pool (smid_in x.descriptor)));
-            waits = λ g i z. ap (is_left_by 0) z;
-          } in
+      record {
+        normal_news = record { descriptor = d; frame = fr; payload = command.payload } ∷ [];
+        high_news = [];
+        normal_is = q.0;
+        high_is = q.1 ∙ sym (append-nil (high_posts w.host.out));
+        normal_new = all_one (λ (x : Post). FreshNormal w 0 k1 (slot_of k1.pool (smid_in x.descriptor))) (record { descriptor = d; frame = fr; payload = command.payload })
+            (subst (FreshNormal w 0 k1) (sym (ap (slot_of k1.pool) is ∙ posted_at s (request.Command n) (omega (arith, i)) (omega (arith, i)))) fresh);
+        high_new = All-nil (λ (x : Post). FreshHigh w 0 k1 x (slot_of k1.pool (smid_in x.descriptor)));
+        waits = λ g i z. ap (is_left_by 0) z;
+      } in
       subst (HostLine w) (sym e) (MoreOf (up_goes w.host.mode u) grew)
     where
       handle_of : Option Cmd → ℕ

@@ -1,9 +1,8 @@
 -- The controller's queues behind a work step and behind an item of the fabric: they stay, but for what an abort takes off.
-use Rattle.std.proofs.Common.{◌≡◌, ℕ, Bool, true, false, not, if◌then◌else◌, List, [], ◌∷◌, Option, Some, None, refl, ap, sym, ◌∙◌, subst}
+use Rattle.std.proofs.Common.{◌≡◌, ℕ, Bool, true, false, not, if◌then◌else◌, List, [], ◌∷◌, Option, Some, None, refl, sym, subst}
 use Rattle.std.specs.List.{filter}
 use Rattle.mpt_wire.specs.Messages.Fields.{controlled_handle_in, dev_handle_in, task_mid_in}
 use Rattle.mpt_trace.specs.declared.item.Back.{Back}
-use Rattle.mpt_rules.specs.declared.binding.Binding.{Binding}
 use Rattle.mpt_rules.specs.declared.binding.Binding.TheVariants as binding
 use Rattle.mpt_rules.specs.declared.binding.Waiting.{Waiting}
 use Rattle.mpt_rules.specs.declared.post.Post.{Post}

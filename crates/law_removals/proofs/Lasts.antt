@@ -1,30 +1,23 @@
 -- Nothing that uses a handle stands behind its remove device, and no target reset of it behind that of its removal.
-use Rattle.std.proofs.Common.{◌≡◌, ◌≢◌, ℕ, zero, suc, ◌+◌, ◌≤◌, ◌==◌, ◌&&◌, ◌||◌, cond, not, Bool, true, false, if◌then◌else◌, List, [], ◌∷◌, ◌++◌, Option, Some, None, refl, ap, sym, ◌∙◌, subst, arith, append_assoc}
+use Rattle.std.proofs.Common.{◌≡◌, ℕ, zero, suc, ◌≤◌, ◌==◌, ◌||◌, Bool, true, false, List, [], ◌∷◌, ◌++◌, Option, Some, None, refl, ap, sym, ◌∙◌, subst, arith}
 use Rattle.std.specs.Prelude.{All}
 use Rattle.std.specs.FinMap as finmap
 use Rattle.std.proofs.lemmas.Bool.{eqb-true}
 use Rattle.std.proofs.lemmas.List.Elements.{All-cons, All-head, All-nil, All-tail}
 use Rattle.smid_pool.specs.Pool.{Slot, Free, Open, Parked}
 use Rattle.removal.specs.Handles.{IsHandle, phase_at}
-use Rattle.removal.specs.declared.phase.Phase.{Phase}
 use Rattle.removal.specs.declared.phase.Phase.TheVariants as phase
-use Rattle.mpi_doorbell.specs.declared.state.IocState.{IocState}
-use Rattle.mpi_doorbell.specs.declared.state.IocState.TheVariants as ioc_state
 use Rattle.mpt_wire.specs.Messages.Fields.{smid_in}
-use Rattle.mpt_trace.specs.declared.item.Down.{Down}
-use Rattle.mpt_trace.specs.declared.item.Down.TheVariants as down
 use Rattle.mpt_rules.specs.declared.post.Post.{Post}
 use Rattle.mpt_rules.specs.declared.request.Request.{Request}
 use Rattle.mpt_rules.specs.declared.request.Request.TheVariants as request
-use Rattle.mpt_rules.specs.Host.Parts.{Cmd, Host}
-use Rattle.mpt_rules.specs.Ioc.Parts.{Ioc, state_of}
-use Rattle.mpt_rules.specs.Ioc.Tables.{is_operational, is_post_of, is_ready}
-use Rattle.mpt_rules.specs.World.Counts.{how_many, one_if, post_count, queued_count}
-use Rattle.mpt_rules.specs.World.Lines.{down_line, high_line, high_posts, is_high, normal_line, normal_posts}
+use Rattle.mpt_rules.specs.Host.Parts.{Cmd}
+use Rattle.mpt_rules.specs.Ioc.Tables.{is_post_of}
+use Rattle.mpt_rules.specs.World.Counts.{how_many, one_if, queued_count}
+use Rattle.mpt_rules.specs.World.Lines.{down_line, normal_line, normal_posts}
 use Rattle.mpt_rules.specs.World.State.{World}
-use Rattle.mpt_rules.proofs.Counts.{post_count-append, post_count-cons, post_count-nil, queued_count-append, queued_count-cons, queued_count-nil}
-use Rattle.mpt_rules.proofs.Lines.{high_posts-append, high_posts-cons, high_posts-nil, normal_posts-append}
-use Rattle.law_facts.specs.Clock.{in_normal, is_linked_up}
+use Rattle.mpt_rules.proofs.Counts.{queued_count-append, queued_count-cons}
+use Rattle.law_facts.specs.Clock.{in_normal}
 use Rattle.law_facts.specs.Facts.{Facts}
 use Rattle.law_facts.specs.Handles.{RecordHasPhase, is_command_to, is_page_request, is_remove_post, is_remove_request, is_to, phase_of, removes, uses_handle}
 use Rattle.law_facts.specs.History.{History}
@@ -33,7 +26,7 @@ use Rattle.law_lights.proofs.Ones.{normal_few}
 use Rattle.law_messages.proofs.Agreeing.{all_same}
 use Rattle.law_moves.proofs.Counted.{how_many-cons, how_many-nil, later, later-is, later-more, later-none}
 use Rattle.law_removals.specs.Removing.{LastInLine}
-use Rattle.law_removals.proofs.Behind.{After, clash, had_record, open_there, posted, still_named}
+use Rattle.law_removals.proofs.Behind.{After, had_record, posted, still_named}
 use Rattle.law_removals.proofs.HostLines.{FreshNormal, is_ready_phase}
 use Rattle.law_removals.proofs.Grown.{is_out_there}
 use Rattle.law_removals.proofs.Lines.{Part, part_count, part_later, same_count, same_later}
@@ -137,8 +130,8 @@ module _ (w : World) (h : History) (f : Facts w h) (g : ℕ) (i : IsHandle g) wh
     uses_same =
         all_same (λ (p : Post). 1 ≤ queued_count (smid_in p.descriptor) (normal_line w)) (λ (p : Post). uses_handle v g p ≡ uses_handle w g p)
         (λ p l. (let m = in_posts (smid_in p.descriptor) l in
-            ap (λ y. is_command_to v g y || is_page_request g y) (had_record w h f v k a (dead w h f (smid_in p.descriptor) m) (smid_in p.descriptor) m)
-            ∙ ap (λ b. b || is_page_request g (slot w.host (smid_in p.descriptor))) (command_same (smid_in p.descriptor) (slot w.host (smid_in p.descriptor)) refl m))) (normal_line w) (own_counts (normal_line w))
+        ap (λ y. is_command_to v g y || is_page_request g y) (had_record w h f v k a (dead w h f (smid_in p.descriptor) m) (smid_in p.descriptor) m)
+        ∙ ap (λ b. b || is_page_request g (slot w.host (smid_in p.descriptor))) (command_same (smid_in p.descriptor) (slot w.host (smid_in p.descriptor)) refl m))) (normal_line w) (own_counts (normal_line w))
 
     now_last : later (is_remove_post v g) (uses_handle v g) (normal_line w) ≡ 0
     now_last = same_later (is_remove_post v g) (is_remove_post w g) (uses_handle v g) (uses_handle w g) (normal_line w) removal_same uses_same ∙ was_last

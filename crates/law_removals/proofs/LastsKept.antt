@@ -1,39 +1,26 @@
 -- Every case keeps that nothing that uses a handle stands behind its remove device.
-use Rattle.std.proofs.Common.{◌≡◌, ℕ, zero, suc, ◌+◌, ◌≤◌, ◌||◌, Bool, true, false, List, [], ◌∷◌, ◌++◌, map, Option, Some, None, refl, ap, sym, ◌∙◌, subst, arith, append_assoc, append-nil}
-use Rattle.std.specs.Prelude.{All}
-use Rattle.smid_pool.specs.Pool.{record_of}
+use Rattle.std.proofs.Common.{◌≡◌, ℕ, ◌≤◌, List, [], ◌∷◌, ◌++◌, ap, sym, ◌∙◌, subst, append_assoc}
 use Rattle.removal.specs.Handles.{IsHandle}
-use Rattle.mpt_wire.specs.Machine.Causes.{is_resetting, is_up}
-use Rattle.mpt_wire.specs.Messages.Fields.{smid_in}
-use Rattle.mpt_trace.specs.declared.host_state.HostState.{HostState}
-use Rattle.mpt_trace.specs.declared.host_state.HostState.TheVariants as state
 use Rattle.mpt_trace.specs.declared.item.Down.{Down}
 use Rattle.mpt_trace.specs.declared.item.Down.TheVariants as down
-use Rattle.mpt_trace.specs.declared.item.Up.{Up}
-use Rattle.mpt_trace.specs.declared.item.Up.TheVariants as upward
 use Rattle.mpt_rules.specs.declared.post.Post.{Post}
-use Rattle.mpt_rules.specs.Host.Parts.{Host}
-use Rattle.mpt_rules.specs.Host.Replies as replies
 use Rattle.mpt_rules.specs.Host.Returns.{after_sent}
-use Rattle.mpt_rules.specs.Host.Takes.{hears_up, is_starting}
 use Rattle.mpt_rules.specs.Ioc.Takes.{takes_down}
 use Rattle.mpt_rules.specs.Law.{NothingIsStrange}
 use Rattle.mpt_rules.specs.World.Cases.{Case, entries, happens}
-use Rattle.mpt_rules.specs.World.Counts.{how_many, one_if}
-use Rattle.mpt_rules.specs.World.Lines.{down_line, normal_line, normal_posts, said_of}
-use Rattle.mpt_rules.specs.World.State.{World, up_on, with_up}
-use Rattle.mpt_rules.proofs.Lines.{normal_posts-append}
-use Rattle.law_facts.specs.Clock.{in_normal, is_linked_up}
+use Rattle.mpt_rules.specs.World.Counts.{how_many}
+use Rattle.mpt_rules.specs.World.Lines.{down_line, normal_line, normal_posts}
+use Rattle.mpt_rules.specs.World.State.{World}
 use Rattle.law_facts.specs.Facts.{Facts}
 use Rattle.law_facts.specs.History.{History, history_after}
 use Rattle.law_facts.specs.Words.{is_calm_said, is_off, is_post, slot}
 use Rattle.law_moves.proofs.Cases.{Owes, kept}
-use Rattle.law_removals.proofs.Behind.{After, clash}
+use Rattle.law_removals.proofs.Behind.{After}
 use Rattle.law_removals.proofs.HostBehaves.{Behaves, Fewer, More, looked, stopped, taken, told}
 use Rattle.law_removals.proofs.IocStays.{back_queues, work_queues}
 use Rattle.law_removals.specs.Removing.{LastInLine}
 use Rattle.law_removals.proofs.Lasts.{fewer_posts, kept_host, more_posts}
-use Rattle.law_removals.proofs.Lines.{Drops, Part, down_taken, part_append, part_itself, part_none, shrunk}
+use Rattle.law_removals.proofs.Lines.{Drops, Part, down_taken, part_append, part_itself, shrunk}
 
 module _ (w : World) (h : History) (f : Facts w h) (plain : NothingIsStrange w) (g : ℕ) (i : IsHandle g) where
   abbrev Keeps : World → Type 0

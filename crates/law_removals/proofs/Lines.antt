@@ -21,8 +21,8 @@ use Rattle.mpt_rules.specs.Ioc.Tables.{is_operational, is_unanswered}
 use Rattle.mpt_rules.specs.Ioc.Takes as adapter
 use Rattle.mpt_rules.specs.World.Counts.{how_many, one_if}
 use Rattle.mpt_rules.specs.World.Lines.{high_posts, is_high, normal_posts}
-use Rattle.mpt_rules.proofs.Lines.{high_posts-append, high_posts-cons, normal_posts-append, normal_posts-cons}
-use Rattle.law_moves.proofs.Counted.{how_many-cons, how_many-nil, later, later-cons, later-le, later-nil, later-zero}
+use Rattle.mpt_rules.proofs.Lines.{high_posts-cons, normal_posts-cons}
+use Rattle.law_moves.proofs.Counted.{how_many-cons, how_many-nil, later, later-cons, later-le, later-nil}
 use Rattle.law_moves.proofs.IocTakes as leaf
 use Rattle.law_moves.proofs.IocTakes.{shook}
 use Rattle.law_removals.proofs.IocStays.{Loses, Shrinks, Stays}

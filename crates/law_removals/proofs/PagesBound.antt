@@ -2,9 +2,9 @@
 use Rattle.std.proofs.Common.{◌≡◌, ◌≢◌, ℕ, zero, suc, ◌+◌, ◌-◌, ◌≤◌, ◌<◌, ◌==◌, ◌||◌, cond, Bool, true, false, if◌then◌else◌, List, [], ◌∷◌, ◌++◌, map, set, length, Option, Some, None, refl, ap, sym, ◌∙◌, subst, arith, append_assoc}
 use Rattle.std.specs.Prelude.{All}
 use Rattle.std.proofs.lemmas.Bool.{eqb-true}
-use Rattle.std.proofs.lemmas.List.Elements.{All-head, All-tail}
+use Rattle.std.proofs.lemmas.List.Elements.{All-head}
 use Rattle.smid_pool.specs.Pool.{Slot, Free, Open, Parked}
-use Rattle.removal.specs.Handles.{IsHandle, phase_at}
+use Rattle.removal.specs.Handles.{IsHandle}
 use Rattle.removal.specs.declared.phase.Phase.{Phase}
 use Rattle.removal.specs.declared.phase.Phase.TheVariants as phase
 use Rattle.mpi_doorbell.specs.declared.state.IocState.{IocState}
@@ -28,7 +28,7 @@ use Rattle.mpt_rules.specs.Host.Returns.{after_sent}
 use Rattle.mpt_rules.specs.Ioc.Back as news
 use Rattle.mpt_rules.specs.Ioc.Bindings as bind
 use Rattle.mpt_rules.specs.Ioc.Commands as commands
-use Rattle.mpt_rules.specs.Ioc.Parts.{Ioc, state_of}
+use Rattle.mpt_rules.specs.Ioc.Parts.{Ioc}
 use Rattle.mpt_rules.specs.Ioc.Replies as say
 use Rattle.mpt_rules.specs.Ioc.Requests as asked
 use Rattle.mpt_rules.specs.Ioc.Steps as step
@@ -43,7 +43,7 @@ use Rattle.mpt_rules.specs.World.News as told_news
 use Rattle.mpt_rules.specs.World.News.{News, news_in}
 use Rattle.mpt_rules.specs.World.State.{World}
 use Rattle.mpt_rules.proofs.Counts.{how_many-append}
-use Rattle.law_facts.specs.Clock.{in_normal, is_live}
+use Rattle.law_facts.specs.Clock.{is_live}
 use Rattle.law_facts.specs.Facts.{Facts}
 use Rattle.law_facts.specs.Handles.{Left, PageIsBound, Side, There, Turn, Vacant, is_command_to, is_page_post, is_page_request, is_remove_post, is_remove_request, phase_of, removal_of, replayed, side_of_binding, side_of_phase, turn_of, turns_of, uses_handle}
 use Rattle.law_facts.specs.History.{History, history_after}
@@ -322,7 +322,7 @@ module _ (w : World) (h : History) (f : Facts w h) (plain : NothingIsStrange w) 
             let t = there_not_vacant (phase_of v g) r.1 in
             let life = a.lives g i n l in
             by_binding (binding_of v.ioc g) refl (λ o. never_vacant g (up_line v 0) (side_of_phase (phase_of v g)) t.0
-                (sym (ap (λ s. replayed (Some (side_of_phase (phase_of v g))) (turns_of s g (up_line v 0))) t.1) ∙ (life ∙ ap (λ b. Some (side_of_binding b)) o)))
+            (sym (ap (λ s. replayed (Some (side_of_phase (phase_of v g))) (turns_of s g (up_line v 0))) t.1) ∙ (life ∙ ap (λ b. Some (side_of_binding b)) o)))
           where
             by_binding : (b : Binding) → binding_of v.ioc g ≡ b → (binding_of v.ioc g ≡ binding.Unbound → ⊥) → IsBound v.ioc
             by_binding binding.Unbound o d = absurd (d o)

@@ -9,7 +9,7 @@ use Rattle.std.proofs.lemmas.List.Elements.{All-get_or, All-head}
 use Rattle.ioc_msgs.specs.UnitControl.{unit_control_layout, unit_control_values}
 use Rattle.mpt_messages.proofs.FrameStands.{host_frame_stands}
 use Rattle.mpt_messages.proofs.HostFits.{removal_fits}
-use Rattle.smid_pool.specs.Pool.{Slot, Free, Open, Parked, is_open}
+use Rattle.smid_pool.specs.Pool.{Slot, Free, Open, Parked}
 use Rattle.removal.specs.Handles.{IsHandle}
 use Rattle.mpi_doorbell.specs.DoorRegisters.{register_written}
 use Rattle.mpi_doorbell.specs.declared.effect.Effect.{Effect}
@@ -21,14 +21,13 @@ use Rattle.mpi_rings.specs.declared.request_descriptor.PostKind.TheVariants as p
 use Rattle.mpt_messages.specs.Function.{byte_of}
 use Rattle.mpt_messages.specs.declared.function.Function.TheVariants as function
 use Rattle.mpt_messages.specs.declared.host_ask.HostAsk.TheVariants as ask
-use Rattle.mpt_wire.specs.Handles.Names.{is_removal, removal_posted, reply_smid_in}
-use Rattle.mpt_wire.specs.Handles.Removals.{UnbindAsks, removal_began, removals_next}
+use Rattle.mpt_wire.specs.Handles.Names.{is_removal}
+use Rattle.mpt_wire.specs.Handles.Removals.{removal_began, removals_next}
 use Rattle.mpt_wire.specs.Machine.State.{put_at}
 use Rattle.mpt_wire.specs.Messages.Fields.{controlled_handle_in, function_in, kind_in, operation_in, remove_device, smid_in}
-use Rattle.mpt_wire.specs.Walks.Passes.{EachEntry, Passes, state_after}
+use Rattle.mpt_wire.specs.Walks.Passes.{EachEntry, state_after}
 use Rattle.mpt_trace.specs.declared.entry.Entry.{Entry}
 use Rattle.mpt_trace.specs.declared.entry.Entry.TheVariants as entry
-use Rattle.mpt_trace.specs.declared.item.Back.{Back}
 use Rattle.mpt_trace.specs.declared.item.Down.{Down}
 use Rattle.mpt_trace.specs.declared.item.Down.TheVariants as down
 use Rattle.mpt_trace.specs.declared.item.Item.TheVariants as item
@@ -47,7 +46,6 @@ use Rattle.mpt_rules.specs.Ioc.Places.{is_reply_of}
 use Rattle.mpt_rules.specs.Ioc.Posts as posts
 use Rattle.mpt_rules.specs.Ioc.Registers as registers
 use Rattle.mpt_rules.specs.Ioc.Replies.{outbox_of}
-use Rattle.mpt_rules.specs.Ioc.Steps as step
 use Rattle.mpt_rules.specs.Ioc.Tables.{is_post_of, is_ready, is_operational, is_unanswered}
 use Rattle.mpt_rules.specs.Ioc.Takes as adapter
 use Rattle.mpt_rules.specs.Law.{NothingIsStrange}
@@ -58,19 +56,18 @@ use Rattle.mpt_rules.specs.World.Lines.{down_line, said_of}
 use Rattle.mpt_rules.specs.World.PlaceCounts.{replies_on}
 use Rattle.mpt_rules.specs.World.Places.{is_posted_as}
 use Rattle.mpt_rules.specs.World.State.{World, up_lane, up_on, with_up}
-use Rattle.mpt_rules.proofs.Counts.{how_many-append, post_count-append, post_count-cons, queued_count-append, queued_count-cons, queued_count-nil, reply_count-append, reply_count-cons, reply_count-nil}
+use Rattle.mpt_rules.proofs.Counts.{queued_count-append, queued_count-cons, queued_count-nil, reply_count-append, reply_count-cons, reply_count-nil}
 use Rattle.law_facts.specs.Clock.{is_linked_up}
 use Rattle.law_facts.specs.Facts.{Facts}
 use Rattle.law_facts.specs.Handles.{RemovalIsKnown}
 use Rattle.law_facts.specs.History.{History, history_after}
 use Rattle.law_facts.specs.Limits.{RecordFits}
-use Rattle.law_facts.specs.Messages.{DownIsRecord, PostIs, PostIsRecord}
+use Rattle.law_facts.specs.Messages.{DownIsRecord, PostIs}
 use Rattle.law_facts.specs.Words.{is_bare, is_load, slot}
 use Rattle.law_flights.proofs.HostHolds.{in_table}
-use Rattle.law_flights.proofs.WorkLeaves.{Removes, Works, works_leaf}
 use Rattle.law_handles.proofs.HostSays.{told_input}
 use Rattle.law_handles.proofs.HostSilent.{quiet, quiet_taken}
-use Rattle.law_handles.proofs.LifeWork.{function_removed, handle_removed, operation_removed}
+use Rattle.law_handles.proofs.LifeWork.{handle_removed, operation_removed}
 use Rattle.law_handles.proofs.Silent.{IsQuiet}
 use Rattle.law_lights.proofs.Ones.{sum_at}
 use Rattle.law_messages.proofs.Agreeing.{turned_false, turned_true}
@@ -151,9 +148,10 @@ byte_removed g l = ap (λ vs. get_or vs 3 0) (host_frame_stands (ask.Remove g) (
 
 pub removal_frame : (g : ℕ) (fr : List ℕ) → IsHandle g → fr ≡ frame_asked (ask.Remove g) → (is_removal fr ≡ true) × (controlled_handle_in fr ≡ g)
 removal_frame g fr i e =
-    let low : g < 2 ^ 16 = (let b = i.1 in omega (arith, b)) in
-    (both (function_in fr == byte_of function.UnitControl) (operation_in fr == remove_device) (equal (function_in fr) (byte_of function.UnitControl) (ap function_in e ∙ byte_removed g low)) (equal (operation_in fr) remove_device (ap operation_in e ∙ operation_removed g low)),
-    ap controlled_handle_in e ∙ handle_removed g low)
+    let low : g < 2 ^ 16 = (let b = i.1 in omega (arith, b)) in (
+      both (function_in fr == byte_of function.UnitControl) (operation_in fr == remove_device) (equal (function_in fr) (byte_of function.UnitControl) (ap function_in e ∙ byte_removed g low)) (equal (operation_in fr) remove_device (ap operation_in e ∙ operation_removed g low)),
+      ap controlled_handle_in e ∙ handle_removed g low,
+    )
   where
     both : (a b : Bool) → a ≡ true → b ≡ true → (a && b) ≡ true
     both a b x y = ap (λ c. c && b) x ∙ y

@@ -1,12 +1,10 @@
 -- A target reset that is on its way to a controller that is OPERATIONAL has a handle that is bound to its address; that of a removal has a gone one.
-use Rattle.std.proofs.Common.{◌≡◌, ◌≢◌, ℕ, zero, suc, ◌+◌, ◌-◌, ◌≤◌, ◌<◌, ◌^◌, ◌==◌, ◌&&◌, ◌||◌, not, cond, inr, get_or, Bool, true, false, if◌then◌else◌, List, [], ◌∷◌, ◌++◌, map, set, length, length-set, option_map, Option, Some, None, refl, ap, sym, ◌∙◌, subst, arith, append_assoc}
+use Rattle.std.proofs.Common.{◌≡◌, ℕ, zero, suc, ◌+◌, ◌≤◌, ◌==◌, ◌&&◌, ◌||◌, not, cond, inr, get_or, Bool, true, false, if◌then◌else◌, List, [], ◌∷◌, ◌++◌, map, length, length-set, option_map, Option, Some, None, refl, ap, sym, ◌∙◌, subst, arith, append_assoc}
 use Rattle.std.specs.Prelude.{All}
 use Rattle.std.proofs.lemmas.Bool.{eqb-true}
 use Rattle.std.proofs.lemmas.List.Elements.{All-append, All-cons, All-head, All-nil, All-tail}
 use Rattle.smid_pool.specs.Pool.{Slot, Free, Open, Parked}
-use Rattle.removal.specs.Handles.{IsHandle, phase_at}
-use Rattle.removal.specs.declared.phase.Phase.{Phase}
-use Rattle.removal.specs.declared.phase.Phase.TheVariants as phase
+use Rattle.removal.specs.Handles.{IsHandle}
 use Rattle.scsi_msgs.specs.TaskAsk.{task_ask_layout, task_ask_values}
 use Rattle.mpi_doorbell.specs.DoorRegisters.{is_fault}
 use Rattle.mpi_doorbell.specs.declared.state.IocState.{IocState}
@@ -14,7 +12,6 @@ use Rattle.mpi_doorbell.specs.declared.state.IocState.TheVariants as ioc_state
 use Rattle.mpi_rings.specs.RequestDescriptor.{flags_of}
 use Rattle.mpi_rings.specs.declared.request_descriptor.PostKind.TheVariants as post
 use Rattle.mpt_messages.specs.Function.{function_of}
-use Rattle.mpt_messages.specs.HostFrames.{IsTask}
 use Rattle.mpt_messages.specs.declared.function.Function.TheVariants as function
 use Rattle.mpt_messages.specs.declared.host_ask.HostAsk.TheVariants as ask
 use Rattle.mpt_messages.proofs.FrameStands.{host_frame_stands}
@@ -54,7 +51,7 @@ use Rattle.mpt_rules.specs.World.News.{News, news_in}
 use Rattle.mpt_rules.specs.World.State.{World}
 use Rattle.mpt_rules.specs.World.Weight.{is_gone_binding}
 use Rattle.mpt_rules.proofs.Counts.{post_count-cons, queued_count-append, queued_count-cons, queued_count-nil}
-use Rattle.mpt_rules.proofs.Lines.{high_posts-append, high_posts-cons, high_posts-nil}
+use Rattle.mpt_rules.proofs.Lines.{high_posts-cons, high_posts-nil}
 use Rattle.law_facts.specs.Clock.{in_normal, is_live}
 use Rattle.law_facts.specs.Facts.{Facts}
 use Rattle.law_facts.specs.Handles.{BindingIs, Left, ReadyIsBound, RecordHasPhase, ResetIsBound, ResetIsOf, Side, Turn, address_of, is_let_go, is_remove_post, is_remove_request, is_target_reset_post, phase_of, removal_of, removes, replayed, side_of_binding, side_of_phase, turn_of, turns_of}
@@ -71,7 +68,7 @@ use Rattle.law_handles.proofs.ServingWorld.{bare}
 use Rattle.law_handles.proofs.Tables.{at, at-set, binding_is, stands}
 use Rattle.law_messages.proofs.Agreeing.{all_last, all_same}
 use Rattle.law_moves.proofs.Cases.{Owes, kept}
-use Rattle.law_moves.proofs.Counted.{fewer_pass, how_many-cons, how_many-nil}
+use Rattle.law_moves.proofs.Counted.{fewer_pass, how_many-cons}
 use Rattle.law_moves.proofs.IocTakes as leaf
 use Rattle.law_moves.proofs.IocTakes.{Takes, takes}
 use Rattle.law_lives.proofs.HostDoes.{none_high}
@@ -423,7 +420,7 @@ module _ (w : World) (h : History) (f : Facts w h) (plain : NothingIsStrange w) 
         (part_append _ w.ioc.high (high_posts (down_line w)) (high_posts (down_line w)) (subst (λ ns. Part ns w.ioc.high) (sym (work_queues (record w.ioc { normal = rest }) p0).high) (part_itself w.ioc.high)) (part_itself (high_posts (down_line w))))
         (λ l. all_under Freed (λ (p : Post). is_target_reset_post (controlled_handle_in p0.frame) p ≡ false) (high_line w) (λ k. none_left l k))
         (λ p r b n z. worked (dev_handle_in p.frame) (record w.ioc { normal = rest }) f.flights.sizes.bindings p0 _ (works_leaf (record w.ioc { normal = rest }) p0)
-            (λ k u. freed_apart (dev_handle_in p.frame) (k, u) (reset_apart (controlled_handle_in p0.frame) p r b z (n (k, u)))))
+        (λ k u. freed_apart (dev_handle_in p.frame) (k, u) (reset_apart (controlled_handle_in p0.frame) p r b z (n (k, u)))))
 
   -- the front of the high queue is no remove device
   high_worked : (p0 : Post) (rest : List Post) → w.ioc.high ≡ p0 ∷ rest → AllBound (record w { ioc = (step.works_on (record w.ioc { high = rest }) p0).part })
@@ -493,8 +490,8 @@ module _ (w : World) (h : History) (f : Facts w h) (plain : NothingIsStrange w) 
     old =
         all_same (λ (p : Post). (1 ≤ queued_count (smid_in p.descriptor) (high_line w)) × (PostIsRecord w h p × ResetIsBound w p)) (ResetIsBound v)
         (λ p z. (let m = in_posts (smid_in p.descriptor) z.0 in
-            subst (ResetIsOf v p) (sym (had_record w h f v k a (dead w h f (smid_in p.descriptor) m) (smid_in p.descriptor) m))
-            (transfer v p (slot w.host (smid_in p.descriptor)) z.1.0 (λ r. subst (Goes (binding_of w.ioc (dev_handle_in p.frame))) (sym (ap (λ (j : Ioc). binding_of j (dev_handle_in p.frame)) same_ioc)) (Stay (binding_of w.ioc (dev_handle_in p.frame)))) z.1.1)))
+        subst (ResetIsOf v p) (sym (had_record w h f v k a (dead w h f (smid_in p.descriptor) m) (smid_in p.descriptor) m))
+        (transfer v p (slot w.host (smid_in p.descriptor)) z.1.0 (λ r. subst (Goes (binding_of w.ioc (dev_handle_in p.frame))) (sym (ap (λ (j : Ioc). binding_of j (dev_handle_in p.frame)) same_ioc)) (Stay (binding_of w.ioc (dev_handle_in p.frame)))) z.1.1)))
         (high_line w) (all_and (λ (p : Post). 1 ≤ queued_count (smid_in p.descriptor) (high_line w)) (λ (p : Post). PostIsRecord w h p × ResetIsBound w p) (high_line w) (own_counts (high_line w)) (all_and (PostIsRecord w h) (ResetIsBound w) (high_line w) records (f.handles.resets live_too)))
 
     -- what is new

@@ -1,5 +1,5 @@
 -- Each handle that is freed is that of a remove device that was taken and isn't answered.
-use Rattle.std.proofs.Common.{◌≡◌, ◌≢◌, ℕ, zero, suc, ◌+◌, ◌-◌, ◌%◌, ◌≤◌, ◌<◌, ◌^◌, ◌==◌, mod-lt, Bool, true, false, if◌then◌else◌, List, [], ◌∷◌, ◌++◌, Option, Some, None, get_or, refl, ap, sym, ◌∙◌, subst, arith}
+use Rattle.std.proofs.Common.{◌≡◌, ◌≢◌, ℕ, ◌-◌, ◌%◌, ◌≤◌, ◌<◌, ◌^◌, ◌==◌, mod-lt, List, [], ◌∷◌, Option, Some, None, get_or, refl, ap, sym, ◌∙◌, subst, arith}
 use Rattle.std.specs.Prelude.{All}
 use Rattle.std.specs.FinMap as finmap
 use Rattle.std.proofs.lemmas.List.Elements.{All-head}
@@ -23,7 +23,7 @@ use Rattle.mpt_messages.proofs.HostFits.{ack_fits, notification_fits, page_fits,
 use Rattle.mpt_wire.specs.Handles.Removals.{UnbindAsks, removals_next}
 use Rattle.mpt_wire.specs.Machine.State.{OpenRequest}
 use Rattle.mpt_wire.specs.Messages.Fields.{controlled_handle_in, flags_in, function_in, kind_by_flags, kind_in, post_descriptor, smid_in}
-use Rattle.mpt_wire.specs.Walks.Passes.{EachEntry, Passes, state_after}
+use Rattle.mpt_wire.specs.Walks.Passes.{EachEntry, Passes}
 use Rattle.mpt_trace.specs.declared.entry.Entry.{Entry}
 use Rattle.mpt_trace.specs.declared.entry.Entry.TheVariants as entry
 use Rattle.mpt_trace.specs.declared.item.Back.{Back}
@@ -44,7 +44,6 @@ use Rattle.mpt_rules.specs.Ioc.Bindings as bind
 use Rattle.mpt_rules.specs.Ioc.Parts.{Ioc}
 use Rattle.mpt_rules.specs.Ioc.Registers as registers
 use Rattle.mpt_rules.specs.Ioc.Requests as asked
-use Rattle.mpt_rules.specs.Ioc.Steps as step
 use Rattle.mpt_rules.specs.Ioc.Takes as adapter
 use Rattle.mpt_rules.specs.Law.{NothingIsStrange}
 use Rattle.mpt_rules.specs.World.Cases.{Case, entries}

@@ -3,8 +3,6 @@
 
 mod laws;
 
-pub use laws::lasts_are_kept;
-pub use laws::pages_are_bound;
-pub use laws::removals_are_known;
-pub use laws::resets_are_bound;
-pub use laws::unbinds_pass;
+pub use laws::{
+    lasts_are_kept, pages_are_bound, removals_are_known, resets_are_bound, unbinds_pass,
+};
