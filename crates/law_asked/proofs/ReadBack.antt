@@ -53,7 +53,7 @@ module _ (c : Command) (f : fits c ≡ true) (b : IsBytes c.cdb) (s handle : ℕ
   cdb_short : (1 ≤ length c.cdb) × (length c.cdb ≤ 16)
   cdb_short = (grind (arith, f), grind (arith, f))
 
-  few : c.len ≤ 4096
+  pub few : c.len ≤ 4096
   few = grind (arith, f)
 
   padded_bytes : IsBytes (padded_cdb c.cdb)
@@ -62,7 +62,7 @@ module _ (c : Command) (f : fits c ≡ true) (b : IsBytes c.cdb) (s handle : ℕ
   padded_length : length (padded_cdb c.cdb) ≡ 16
   padded_length = let a = Rattle.std.proofs.Common.length-append c.cdb (replicate (16 - length c.cdb) 0) in let r = Rattle.std.proofs.lemmas.List.length-replicate (16 - length c.cdb) (let z : ℕ = 0 in z) in let q = cdb_short in omega (arith, a, r, q)
 
-  fit : IsTrue (message_fit (host_message (command_asked s handle c)))
+  pub fit : IsTrue (message_fit (host_message (command_asked s handle c)))
   fit =
       let x = field_lt (padded_cdb c.cdb) 0 8 padded_bytes in let y = field_lt (padded_cdb c.cdb) 8 8 padded_bytes in
       io_fits handle (sense_address s) c.lun c.len (length c.cdb) (direction c.len (is_data_to_disk c)) (field (padded_cdb c.cdb) 0 8) (field (padded_cdb c.cdb) 8 8) (element_flags (is_data_to_disk c)) (element_address s c.len)
@@ -75,7 +75,7 @@ module _ (c : Command) (f : fits c ≡ true) (b : IsBytes c.cdb) (s handle : ℕ
   unfolding scsi_io_layout scsi_io_values
   handle_read = ap (λ vs. get_or vs 0 0) (host_frame_stands (command_asked s handle c) fit).numbers
 
-  length_read : data_length_in (frame_asked (command_asked s handle c)) ≡ c.len
+  pub length_read : data_length_in (frame_asked (command_asked s handle c)) ≡ c.len
   unfolding scsi_io_layout scsi_io_values
   length_read = ap (λ vs. get_or vs 18 0) (host_frame_stands (command_asked s handle c) fit).numbers
 

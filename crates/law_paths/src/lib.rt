@@ -1,0 +1,6 @@
+//! Laws of a command's path: how far it is there. The functions do nothing: what their contracts say is all that they are for.
+#![tactic(auto)]
+
+mod laws;
+
+pub use laws::{commands_walk, further_paths_are_kept, marks_are_kept, payloads_fit, stages_are_kept};
