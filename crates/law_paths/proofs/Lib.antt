@@ -17,5 +17,6 @@ pub mod PlainKept
 pub mod PostKinds
 pub mod Staging
 pub mod TagsKept
+pub mod TellsPass
 pub mod UpCases
 pub mod WalksPass

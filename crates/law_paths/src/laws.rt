@@ -1,6 +1,7 @@
 //! The laws.
 ghost use Rattle.std.specs.Prelude.{List, ℕ};
 ghost use Rattle.mpt_trace.specs.declared.entry.Entry.{Entry};
+ghost use Rattle.mpt_wire.specs.Paths.Replies.{RepliesAsk};
 ghost use Rattle.mpt_wire.specs.Paths.Stages.{WalkAsks, walk_next};
 ghost use Rattle.mpt_wire.specs.Walks.Passes.{Passes};
 ghost use Rattle.mpt_rules.specs.Law.{NothingIsStrange};
@@ -38,4 +39,9 @@ pub fn commands_walk()
 pub fn payloads_fit()
     ensures first { (s : Setting) → PayloadsFit (first_history s.disks) }
     ensures kept { (h : History) (t : List Entry) → PayloadsFit h → PayloadsFit (history_after h t) }
+{}
+
+/// And so each reply to a command tells its result as it is, or nothing where there is none.
+pub fn replies_tell()
+    ensures { (w : World) (h : History) (c : Case) → Facts w h → NothingIsStrange w → FurtherPaths w h → PayloadsFit h → (s : ℕ) → Passes (walk_next s) (RepliesAsk s) (h.walk s) (entries w c) }
 {}
