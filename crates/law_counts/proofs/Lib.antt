@@ -9,3 +9,8 @@ pub mod Placed
 pub mod ProgressKept
 pub mod Shown
 pub mod CountsPass
+pub mod Decoded
+pub mod FewTasks
+pub mod BoxWalk
+pub mod CountsKept
+pub mod FitsKept

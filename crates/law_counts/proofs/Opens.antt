@@ -88,7 +88,7 @@ says_reset p r y z k t =
     }
 
 module _ (w : World) (h : History) (f : Facts w h) where
-  high : (p : Post) (r : Request) → slot w.host (smid_in p.descriptor) ≡ Open r → p.descriptor ≡ post_descriptor post.HighPriority 0 (smid_in p.descriptor) 0 → kind_in p.descriptor ≡ Some post.HighPriority
+  pub high : (p : Post) (r : Request) → slot w.host (smid_in p.descriptor) ≡ Open r → p.descriptor ≡ post_descriptor post.HighPriority 0 (smid_in p.descriptor) 0 → kind_in p.descriptor ≡ Some post.HighPriority
   high p r e a = let l = inside w h f (smid_in p.descriptor) r e in ap kind_in a ∙ kind_posted post.HighPriority 0 (smid_in p.descriptor) 0 (omega arith) (omega (arith, l))
 
   of_command : (p : Post) (n : ℕ) (c : Option Cmd) (r : Option OpenRequest) → CommandPost w p c r → PostSays p (request.Command n)

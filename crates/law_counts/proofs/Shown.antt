@@ -5,6 +5,7 @@ use Rattle.mpi_doorbell.specs.declared.state.IocState.{IocState}
 use Rattle.mpi_doorbell.specs.declared.state.IocState.TheVariants as ioc_state
 use Rattle.mpt_wire.specs.Paths.TerminationCounts.{Awaited}
 use Rattle.mpt_rules.specs.declared.at_fabric.AtFabric.{AtFabric}
+use Rattle.mpt_rules.specs.Ioc.Replies.{outbox_of}
 use Rattle.mpt_rules.specs.Ioc.Tables.{is_operational, request_at}
 use Rattle.mpt_rules.specs.Law.{NothingIsStrange}
 use Rattle.mpt_rules.specs.World.Cases.{Case, entries, happens}
@@ -25,9 +26,11 @@ use Rattle.law_moves.proofs.Counted.{how_many-cons}
 use Rattle.law_messages.specs.Numbers.{AbortsAreAccepted}
 use Rattle.law_messages.proofs.Shown.{leads}
 use Rattle.law_orders.proofs.Kept.{orders_kept}
-use Rattle.law_counts.specs.Counted.{FabricAnswers, ProgressKept, ProgressStands, asked_tokens}
+use Rattle.law_counts.specs.Counted.{CountsFit, CountsKept, FabricAnswers, ProgressKept, ProgressStands, asked_tokens}
 use Rattle.law_counts.proofs.FabricAsks.{ends, no_end}
 use Rattle.law_counts.proofs.IocAsks.{asked_out, both_out, none_out}
+use Rattle.law_counts.proofs.CountsKept as counts
+use Rattle.law_counts.proofs.FitsKept.{fits_kept}
 use Rattle.law_counts.proofs.ProgressKept as progress
 
 none_at : (xs : List (Option AtFabric)) (i : ℕ) → how_many is_some xs ≡ 0 → is_some (get_or xs i None) ≡ false
@@ -93,6 +96,16 @@ module _ (w : World) (h : History) (c : Case) (f : Facts w h) (plain : NothingIs
               let x = one.aborts l in let y = one.resets l in
               let t = both_out q (happens w c).out (happens w c).ioc.out in
               (kept q).answers.awaited (omega (arith, x, y, t, z, n))
+
+module _ (w : World) (h : History) (c : Case) (f : Facts w h) (plain : NothingIsStrange w) (accepted : AbortsAreAccepted w) (further : FabricAnswers w h) (fit : CountsFit w) where
+  pub counts_shown : CountsKept (happens w c) (history_after h (entries w c))
+  counts_shown =
+      let a = counts.counts_kept w h f further fit plain c (whole_kept w h f plain c) (λ l. (clocks_kept w h c f plain).no_reply_before_init.outboxes l 0) (leads w h c f plain accepted) in
+      record {
+        counts = counts.all_counts (happens w c) (history_after h (entries w c)) (outbox_of (happens w c).ioc 0) a;
+        kinds = counts.all_kinds (happens w c) (history_after h (entries w c)) (outbox_of (happens w c).ioc 0) a;
+        further = fits_kept w h f fit plain c;
+      }
 
 pub answers_at_first : (s : Setting) → FabricAnswers (first_world s) (first_history s.disks)
 answers_at_first s q =

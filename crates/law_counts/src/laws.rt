@@ -9,7 +9,7 @@ ghost use Rattle.mpt_rules.specs.World.State.{World};
 ghost use Rattle.law_facts.specs.Facts.{Facts};
 ghost use Rattle.law_facts.specs.History.{History, first_history, history_after};
 ghost use Rattle.law_messages.specs.Numbers.{AbortsAreAccepted};
-ghost use Rattle.law_counts.specs.Counted.{FabricAnswers, KnowsHighAlone, ProgressKept};
+ghost use Rattle.law_counts.specs.Counted.{CountsFit, CountsKept, FabricAnswers, KnowsHighAlone, ProgressKept};
 
 /// Where all facts hold of a world and nothing on its way is strange to its host, the rule of counts and the view know nothing of identifiers that
 /// aren't of task management behind the entries of any case.
@@ -33,4 +33,15 @@ pub fn fabric_answers_at_first()
 /// has that count, or where nothing was sent 0, or 1 of an abort that took its command out of the queue.
 pub fn counts_pass()
     ensures { (w : World) (h : History) (c : Case) → Facts w h → NothingIsStrange w → FabricAnswers w h → (s : ℕ) → Passes (high_next s) (HighAsks s) (h.high s) (entries w c) }
+{}
+
+/// Where besides what the fabric counts for a target reset fits the field of a reply: the counts that wait to be told are right and of their posts' kinds in
+/// the world that any case leads to, and what the fabric counts fits there.
+pub fn counts_are_kept()
+    ensures { (w : World) (h : History) (c : Case) → Facts w h → NothingIsStrange w → AbortsAreAccepted w → FabricAnswers w h → CountsFit w → CountsKept (happens w c) (history_after h (entries w c)) }
+{}
+
+/// In the first world of any setting the fabric has counted nothing.
+pub fn counts_fit_at_first()
+    ensures { (s : Setting) → CountsFit (first_world s) }
 {}

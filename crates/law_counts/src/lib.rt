@@ -3,4 +3,7 @@
 
 mod laws;
 
-pub use laws::{counts_pass, fabric_answers_at_first, only_high_stays, progress_is_kept};
+pub use laws::{
+    counts_are_kept, counts_fit_at_first, counts_pass, fabric_answers_at_first, only_high_stays,
+    progress_is_kept,
+};
