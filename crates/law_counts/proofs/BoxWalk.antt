@@ -1,11 +1,10 @@
 -- What the controller puts into its outbox of queue 0: where what waits there passes, so does what each call adds.
-use Rattle.std.proofs.Common.{◌≡◌, ℕ, suc, ◌+◌, ◌%◌, ◌^◌, ◌≤◌, ◌==◌, ◌&&◌, ◌||◌, not, nat_lt, Bool, true, false, cond, if◌then◌else◌, List, [], ◌∷◌, ◌++◌, map, length, get_or, set, slice_index, Option, Some, None, refl, ap, sym, ◌∙◌, subst, arith}
+use Rattle.std.proofs.Common.{◌≡◌, ℕ, suc, ◌+◌, ◌%◌, ◌^◌, ◌≤◌, ◌==◌, ◌&&◌, ◌||◌, not, nat_lt, Bool, true, false, cond, if◌then◌else◌, List, [], ◌∷◌, ◌++◌, map, length, get_or, slice_index, Option, Some, None, refl, sym, subst, arith}
 use Rattle.std.specs.Prelude.{All}
 use Rattle.std.specs.FinSet as finset
 use Rattle.std.specs.List.{filter, find, position}
 use Rattle.std.proofs.lemmas.List.Elements.{All-append, All-cons, All-filter, All-head, All-nil, All-tail}
 use Rattle.mpi_doorbell.specs.DoorRegisters.{is_fault, linked_up}
-use Rattle.mpi_rings.specs.declared.request_descriptor.PostKind.{PostKind}
 use Rattle.mpi_rings.specs.declared.request_descriptor.PostKind.TheVariants as post
 use Rattle.scsi_disk.specs.declared.scsi_result.ScsiResult.{ScsiResult}
 use Rattle.scsi_disk.specs.declared.scsi_result.TheConstants.{GOOD}
@@ -18,7 +17,6 @@ use Rattle.mpt_messages.specs.declared.ioc_reply.IocReply.TheVariants as reply
 use Rattle.mpt_wire.specs.Messages.Fields.{abort_task, controlled_handle_in, dev_handle_in, kind_in, smid_in, target_reset, task_mid_in, task_type_in, termination_count_in}
 use Rattle.mpt_trace.specs.declared.item.Back.{Back}
 use Rattle.mpt_trace.specs.declared.item.Back.TheVariants as back
-use Rattle.mpt_trace.specs.declared.item.Down.{Down}
 use Rattle.mpt_rules.specs.declared.at_fabric.AtFabric.{AtFabric}
 use Rattle.mpt_rules.specs.declared.at_fabric.AtFabric.TheVariants as at
 use Rattle.mpt_rules.specs.declared.at_fabric.HeldReset.{HeldReset}
@@ -46,7 +44,7 @@ use Rattle.mpt_messages.specs.IocFrames.{reply_frame}
 use Rattle.law_flights.proofs.Leaves.{enable_at}
 use Rattle.law_flights.proofs.Tables.{get_or-set_any}
 use Rattle.law_counts.proofs.Decoded.{count_in, plain_count}
-use Rattle.law_flights.proofs.WorkLeaves.{AbortEnds, AbortSends, Acks, Dropped, Enables, EndsPlainly, Notifies, PageEnds, PageGiven, Refuses, RemovalEnds, Removes, ResetEnds, ResetHolds, ResetSends, ScsiEnds, ScsiSends, Stops, Strays, TaskFails, Works, works_leaf}
+use Rattle.law_flights.proofs.WorkLeaves.{AbortEnds, AbortSends, Acks, Dropped, Enables, EndsPlainly, Notifies, PageEnds, PageGiven, Refuses, RemovalEnds, Removes, ResetEnds, ResetHolds, ResetSends, ScsiEnds, ScsiSends, Stops, Strays, TaskFails, Works}
 
 -- no reply with a frame to an identifier of task management
 abbrev pub IsLow : Said → Type 0

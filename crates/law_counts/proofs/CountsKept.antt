@@ -1,5 +1,5 @@
 -- Each case keeps that the counts that wait to be told are right, and of their posts' kinds.
-use Rattle.std.proofs.Common.{◌≡◌, ◌≢◌, ℕ, zero, suc, ◌+◌, ◌^◌, ◌<◌, ◌≤◌, ◌==◌, ◌⊎◌, inl, inr, nat_lt, not, Bool, true, false, cond, if◌then◌else◌, List, [], ◌∷◌, ◌++◌, drop, get_or, length, map, set, slice_get, Option, Some, None, refl, ap, sym, ◌∙◌, subst, arith}
+use Rattle.std.proofs.Common.{◌≡◌, ℕ, zero, suc, ◌+◌, ◌^◌, ◌<◌, ◌≤◌, ◌==◌, ◌⊎◌, inl, inr, nat_lt, Bool, true, false, cond, if◌then◌else◌, List, [], ◌∷◌, ◌++◌, drop, get_or, length, map, slice_get, Option, Some, None, refl, ap, sym, ◌∙◌, subst, arith}
 use Rattle.std.specs.Prelude.{All}
 use Rattle.std.specs.List.{find, sum_by}
 use Rattle.std.proofs.lemmas.Bool.{eqb-true}
@@ -13,7 +13,7 @@ use Rattle.mpt_messages.specs.IocFrames.{reply_frame}
 use Rattle.mpt_messages.specs.declared.ioc_reply.IocReply.{IocReply}
 use Rattle.smid_pool.specs.Pool.{Slot, Free, Open, Parked}
 use Rattle.mpt_wire.specs.Messages.Fields.{abort_task, dev_handle_in, kind_in, smid_in, target_reset, task_mid_in, task_type_in, termination_count_in}
-use Rattle.mpt_wire.specs.Paths.TerminationCounts.{AReset, AnAbort, Awaited, CountIs, Counted, HighPost, NotSent, count_found, high_next, with_progress}
+use Rattle.mpt_wire.specs.Paths.TerminationCounts.{Awaited, CountIs, Counted, HighPost, NotSent, count_found, high_next, with_progress}
 use Rattle.mpt_trace.specs.declared.entry.Entry.{Entry}
 use Rattle.mpt_trace.specs.declared.entry.Entry.TheVariants as entry
 use Rattle.mpt_rules.specs.declared.post.Post.{Post}
@@ -26,7 +26,7 @@ use Rattle.mpt_rules.specs.Ioc.Replies.{outbox_of}
 use Rattle.mpt_rules.specs.World.Counts.{how_many, one_if, reply_count}
 use Rattle.mpt_rules.specs.World.State.{World}
 use Rattle.mpt_rules.proofs.Counts.{reply_count-cons}
-use Rattle.law_facts.specs.Clock.{is_linked_up, is_live}
+use Rattle.law_facts.specs.Clock.{is_live}
 use Rattle.law_facts.specs.Facts.{Facts}
 use Rattle.law_facts.specs.History.{History, history_after}
 use Rattle.law_facts.specs.Paths.{CountOf, CountOfKind, opened}
@@ -37,11 +37,10 @@ use Rattle.law_messages.proofs.Leads.{Leads}
 use Rattle.law_asked.proofs.Firm.{Firm, not_live_there, stays}
 use Rattle.law_asked.proofs.Lists.{all_both, each_counted}
 use Rattle.law_counts.proofs.BoxWalk.{IsLow}
-use Rattle.std.proofs.lemmas.List.Elements.{All-append}
 use Rattle.mpi_rings.specs.RequestDescriptor.{flags_of}
 use Rattle.mpt_wire.specs.Messages.Fields.{flags_in}
 use Rattle.mpt_wire.specs.Paths.TerminationCounts.{closed, opened_by}
-use Rattle.mpt_wire.specs.Walks.Passes.{EachEntry, state_after}
+use Rattle.mpt_wire.specs.Walks.Passes.{EachEntry}
 use Rattle.mpt_trace.specs.declared.item.Back.{Back}
 use Rattle.mpt_trace.specs.declared.item.Back.TheVariants as back
 use Rattle.mpt_trace.specs.declared.item.Down.{Down}
@@ -52,13 +51,10 @@ use Rattle.mpt_trace.specs.declared.item.Out.TheVariants as out
 use Rattle.mpt_trace.specs.declared.item.Up.{Up}
 use Rattle.mpt_trace.specs.declared.item.Up.TheVariants as upward
 use Rattle.mpt_trace.specs.declared.lane.LaneName.TheVariants as lane
-use Rattle.mpt_rules.specs.declared.at_fabric.AtFabric.{AtFabric}
 use Rattle.mpt_rules.specs.declared.at_fabric.AtFabric.TheVariants as at
 use Rattle.mpt_rules.specs.declared.at_fabric.HeldReset.{HeldReset}
 use Rattle.mpt_rules.specs.declared.status.TheConstants.{IOC_STATUS_SUCCESS}
 use Rattle.mpt_rules.specs.Fabric.Calls as fab
-use Rattle.mpt_rules.specs.Fabric.Parts.{Fabric}
-use Rattle.mpt_rules.specs.Host.Parts.{Host}
 use Rattle.mpt_rules.specs.Host.Returns.{after_sent}
 use Rattle.mpt_rules.specs.Host.Takes.{hears_up, looks, stops}
 use Rattle.mpt_rules.specs.Ioc.Commands as commands
@@ -90,7 +86,7 @@ use Rattle.law_moves.proofs.CasesTold.{OwesTold, kept_told}
 use Rattle.law_moves.proofs.IocTakes as leaf
 use Rattle.law_moves.proofs.IocTakes.{Takes, takes}
 use Rattle.law_messages.proofs.Agreeing.{all_last, all_passing}
-use Rattle.law_messages.proofs.Known.{classed, inside}
+use Rattle.law_messages.proofs.Known.{classed}
 use Rattle.law_asked.proofs.Lists.{counts_first, counts_more}
 use Rattle.law_counts.specs.Counted.{CountFits, CountsFit, FabricAnswers, asked_tokens}
 use Rattle.law_counts.proofs.BoxWalk as box

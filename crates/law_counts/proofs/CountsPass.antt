@@ -6,7 +6,7 @@ use Rattle.std.proofs.lemmas.Bool.{eqb-true}
 use Rattle.std.proofs.lemmas.List.Elements.{All-head}
 use Rattle.smid_pool.specs.Pool.{Slot, Free, Open, Parked}
 use Rattle.mpt_wire.specs.Messages.Fields.{address_descriptor, reply_frame_address, smid_in, success_descriptor, termination_count_in}
-use Rattle.mpt_wire.specs.Paths.TerminationCounts.{AReset, AbortIsAwaited, AnAbort, Awaited, CountIs, HighAsks, HighPost, NoPost, NotSent, count_of, high_next}
+use Rattle.mpt_wire.specs.Paths.TerminationCounts.{AReset, AbortIsAwaited, AnAbort, Awaited, CountIs, HighAsks, NoPost, NotSent, high_next}
 use Rattle.mpt_wire.specs.Walks.Passes.{EachEntry, Passes}
 use Rattle.mpt_trace.specs.declared.entry.Entry.{Entry}
 use Rattle.mpt_trace.specs.declared.entry.Entry.TheVariants as entry
@@ -34,7 +34,7 @@ use Rattle.mpt_rules.specs.World.Cases.{Case, entries}
 use Rattle.mpt_rules.specs.World.Counts.{one_if}
 use Rattle.mpt_rules.specs.World.FabricCounts.{abort_end_count, reset_end_count}
 use Rattle.mpt_rules.specs.World.Inputs.{host_told}
-use Rattle.mpt_rules.specs.World.Lines.{back_line, said_of}
+use Rattle.mpt_rules.specs.World.Lines.{said_of}
 use Rattle.mpt_rules.specs.World.State.{World, up_lane, up_on}
 use Rattle.mpt_rules.proofs.FabricCounts.{abort_end_count-cons, reset_end_count-cons}
 use Rattle.law_facts.specs.Facts.{Facts}
@@ -46,9 +46,9 @@ use Rattle.law_flights.proofs.Descriptors.{smid_addressed, smid_succeeded}
 use Rattle.law_flights.proofs.HostQuiet.{IsQuiet, quiet, quiet_taken}
 use Rattle.law_flights.proofs.HostTold.{told_input}
 use Rattle.law_flights.proofs.IocTold.{told_back, told_down, told_high, told_normal}
-use Rattle.law_moves.proofs.CasesTold.{IsPlugWord, OwesTold, kept_told}
+use Rattle.law_moves.proofs.CasesTold.{OwesTold, kept_told}
 use Rattle.law_messages.proofs.Agreeing.{all_last, same}
-use Rattle.law_messages.proofs.Known.{classed, inside}
+use Rattle.law_messages.proofs.Known.{classed}
 use Rattle.law_counts.specs.Counted.{FabricAnswers}
 use Rattle.law_counts.proofs.IocAsks as own
 use Rattle.law_counts.proofs.Placed as placed

@@ -1,6 +1,5 @@
 -- What the reply to task management counts, whatever its other numbers are.
-use Rattle.std.proofs.Common.{◌≡◌, ℕ, ◌+◌, ◌*◌, ◌/◌, ◌%◌, ◌^◌, ◌<◌, List, refl, ap, sym, ◌∙◌, arith}
-use Rattle.std.specs.Int.{byte_at}
+use Rattle.std.proofs.Common.{◌≡◌, ℕ, ◌+◌, ◌*◌, ◌/◌, ◌%◌, ◌^◌, ◌<◌, refl, arith}
 use Rattle.mpi_layout.specs.Rows.{field}
 use Rattle.scsi_msgs.specs.TaskReply.{task_reply_layout, task_reply_values}
 use Rattle.mpt_messages.specs.IocFrames.{reply_frame}

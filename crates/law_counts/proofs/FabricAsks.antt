@@ -1,5 +1,5 @@
 -- What the fabric tells of aborts and target resets: one end for each that it takes, and none else.
-use Rattle.std.proofs.Common.{◌≡◌, ℕ, ◌+◌, ◌≤◌, ◌==◌, not, Bool, true, false, if◌then◌else◌, List, [], ◌∷◌, ◌++◌, map, length, Option, Some, None, refl, ap, sym, ◌∙◌, subst, arith}
+use Rattle.std.proofs.Common.{◌≡◌, ℕ, ◌+◌, ◌≤◌, ◌==◌, Bool, true, false, if◌then◌else◌, List, [], ◌∷◌, ◌++◌, map, length, Option, Some, None, refl, arith}
 use Rattle.std.specs.List.{cons_option, filter, filter_map, find}
 use Rattle.std.specs.Option.{option_map}
 use Rattle.mpt_trace.specs.declared.item.Back.{Back}
@@ -11,10 +11,9 @@ use Rattle.mpt_rules.specs.Fabric.Calls as fab
 use Rattle.mpt_rules.specs.Fabric.Disks.{all_plugged, disk_of, places_from, plugged_news, plugged_there, stands_at, unplugged_news, with_disk}
 use Rattle.mpt_rules.specs.Fabric.Parts.{Fabric, FabricDisk, Place}
 use Rattle.mpt_rules.specs.Fabric.Tasks as tasks
-use Rattle.mpt_rules.specs.World.Counts.{how_many, one_if}
+use Rattle.mpt_rules.specs.World.Counts.{one_if}
 use Rattle.mpt_rules.specs.World.FabricCounts.{abort_end_count, is_abort_by, is_abort_end_of, is_reset_by, is_reset_end_of, reset_end_count}
 use Rattle.mpt_rules.proofs.FabricCounts.{abort_end_count-append, abort_end_count-cons, abort_end_count-nil, reset_end_count-append, reset_end_count-cons, reset_end_count-nil}
-use Rattle.law_moves.proofs.Counted.{filtered}
 
 module _ (q : ℕ) where
   -- what is told of the ends of an abort or a target reset

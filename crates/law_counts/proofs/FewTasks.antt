@@ -1,5 +1,5 @@
 -- The fabric has no more tasks than there are identifiers, so what a target reset counts fits its field.
-use Rattle.std.proofs.Common.{◌≡◌, ℕ, zero, suc, ◌+◌, ◌<◌, ◌≤◌, ◌==◌, not, Bool, true, false, if◌then◌else◌, List, [], ◌∷◌, length, refl, ap, arith}
+use Rattle.std.proofs.Common.{◌≡◌, ℕ, zero, suc, ◌+◌, ◌≤◌, not, Bool, true, false, if◌then◌else◌, List, [], ◌∷◌, length, refl, arith}
 use Rattle.std.specs.List.{filter}
 use Rattle.mpt_rules.specs.declared.task.Task.{Task}
 use Rattle.mpt_rules.specs.Fabric.Tasks.{has_tag, is_for, tasks_for}

@@ -5,12 +5,10 @@ use Rattle.std.specs.List.{cons_option, filter, filter_map, find}
 use Rattle.std.specs.Option.{option_map}
 use Rattle.std.proofs.lemmas.List.Elements.{All-append, All-cons, All-filter, All-head, All-nil, All-tail}
 use Rattle.smid_pool.specs.Pool.{Slot, Free, Open, Parked}
-use Rattle.mpt_trace.specs.declared.entry.Entry.{Entry}
 use Rattle.mpt_trace.specs.declared.item.Back.{Back}
 use Rattle.mpt_trace.specs.declared.item.Back.TheVariants as back
 use Rattle.mpt_trace.specs.declared.item.Out.{Out}
 use Rattle.mpt_trace.specs.declared.item.Out.TheVariants as out
-use Rattle.mpt_wire.specs.Paths.Commands.{Live}
 use Rattle.mpt_rules.specs.declared.request.Request.{Request}
 use Rattle.mpt_rules.specs.declared.request.Request.TheVariants as request
 use Rattle.mpt_rules.specs.declared.task.Task.{Task}
@@ -21,7 +19,6 @@ use Rattle.mpt_rules.specs.Fabric.Tasks as tasks
 use Rattle.mpt_rules.specs.Law.{NothingIsStrange}
 use Rattle.mpt_rules.specs.World.Cases.{Case, happens}
 use Rattle.mpt_rules.specs.World.Counts.{one_if}
-use Rattle.mpt_rules.specs.World.Lines.{back_line}
 use Rattle.mpt_rules.specs.World.Settings.{Setting, first_world}
 use Rattle.mpt_rules.specs.World.State.{World}
 use Rattle.law_facts.specs.Facts.{Facts}
@@ -31,7 +28,7 @@ use Rattle.law_facts.specs.Notices.{is_notice}
 use Rattle.law_facts.specs.Words.{others, slot}
 use Rattle.law_moves.proofs.Cases.{Owes, kept}
 use Rattle.law_moves.proofs.Counted.{others-cons}
-use Rattle.law_messages.proofs.Agreeing.{all_first, all_last, all_more}
+use Rattle.law_messages.proofs.Agreeing.{all_first, all_last}
 use Rattle.law_messages.proofs.Known.{classed}
 use Rattle.law_counts.specs.Counted.{CountFits, CountsFit}
 use Rattle.law_counts.proofs.FewTasks.{Within, pigeons, some_of_all}

@@ -1,5 +1,5 @@
 -- What a rule reads of the frame of a request: of task management its type and what it names, of any other that it is none.
-use Rattle.std.proofs.Common.{◌≡◌, ℕ, ◌-◌, ◌^◌, ◌<◌, ◌==◌, ◌&&◌, Bool, true, false, List, get_or, refl, ap, sym, ◌∙◌, subst, arith}
+use Rattle.std.proofs.Common.{◌≡◌, ℕ, ◌-◌, ◌^◌, ◌<◌, ◌==◌, false, List, get_or, refl, ap, sym, subst}
 use Rattle.hex.specs.Hex.{IsBytes}
 use Rattle.config_pages.specs.ConfigAsk.{config_ask_layout, config_ask_values}
 use Rattle.event_msgs.specs.EventAck.{event_ack_layout, event_ack_values}

@@ -1,7 +1,6 @@
 -- What the controller has of an abort or a target reset before it asked the fabric: no call makes it more, but by the post that is taken.
-use Rattle.std.proofs.Common.{◌≡◌, ℕ, ◌+◌, ◌≤◌, ◌==◌, ◌&&◌, ◌||◌, not, nat_lt, Bool, true, false, if◌then◌else◌, List, [], ◌∷◌, ◌++◌, length, Option, Some, None, refl, ap, sym, ◌∙◌, subst, arith}
-use Rattle.std.specs.List.{filter}
-use Rattle.mpi_doorbell.specs.DoorRegisters.{is_fault, linked_up}
+use Rattle.std.proofs.Common.{◌≡◌, ℕ, ◌+◌, ◌≤◌, not, Bool, true, false, if◌then◌else◌, List, [], ◌∷◌, ◌++◌, Option, Some, None, refl, ap, sym, subst, arith}
+use Rattle.mpi_doorbell.specs.DoorRegisters.{is_fault}
 use Rattle.mpi_rings.specs.declared.request_descriptor.PostKind.{PostKind}
 use Rattle.mpi_rings.specs.declared.request_descriptor.PostKind.TheVariants as post
 use Rattle.mpt_wire.specs.Messages.Fields.{dev_handle_in, kind_in, smid_in, task_mid_in}
@@ -14,7 +13,6 @@ use Rattle.mpt_rules.specs.declared.at_fabric.HeldReset.{HeldReset}
 use Rattle.mpt_rules.specs.declared.binding.Binding.TheVariants as binding
 use Rattle.mpt_rules.specs.declared.binding.Waiting.{Waiting}
 use Rattle.mpt_rules.specs.declared.post.Post.{Post}
-use Rattle.mpt_rules.specs.Ioc.Back as news
 use Rattle.mpt_rules.specs.Ioc.Bindings as bind
 use Rattle.mpt_rules.specs.Ioc.Commands as commands
 use Rattle.mpt_rules.specs.Ioc.Parts.{Ioc, state_of}

@@ -1,5 +1,5 @@
 -- Each case keeps that nothing is known of identifiers that aren't of task management.
-use Rattle.std.proofs.Common.{◌≡◌, ℕ, ◌+◌, ◌<◌, ◌≤◌, ◌==◌, ◌⊎◌, inl, inr, Bool, true, false, if◌then◌else◌, List, [], ◌∷◌, ◌++◌, Option, Some, None, refl, ap, sym, ◌∙◌, subst, arith}
+use Rattle.std.proofs.Common.{◌≡◌, ℕ, ◌<◌, ◌≤◌, ◌==◌, ◌⊎◌, inl, inr, Bool, true, false, if◌then◌else◌, List, [], ◌∷◌, None, refl, ap, sym, ◌∙◌, subst, arith}
 use Rattle.std.specs.Prelude.{All}
 use Rattle.std.proofs.lemmas.Bool.{eqb-true}
 use Rattle.std.proofs.lemmas.List.Elements.{All-head}
@@ -27,18 +27,17 @@ use Rattle.mpt_rules.specs.World.State.{World, up_lane}
 use Rattle.law_facts.specs.Facts.{Facts}
 use Rattle.law_facts.specs.History.{History, history_after}
 use Rattle.law_facts.specs.Messages.{DownIsRecord}
-use Rattle.law_facts.specs.Paths.{OnlyHigh}
 use Rattle.law_facts.specs.Words.{slot}
 use Rattle.law_flights.proofs.HostQuiet.{IsQuiet, quiet, quiet_taken}
 use Rattle.law_flights.proofs.HostTold.{told_input}
 use Rattle.law_flights.proofs.IocTold.{told_back, told_down, told_high, told_normal}
-use Rattle.law_moves.proofs.CasesTold.{IsPlugWord, OwesTold, kept_told}
+use Rattle.law_moves.proofs.CasesTold.{OwesTold, kept_told}
 use Rattle.law_messages.proofs.Agreeing.{all_last}
 use Rattle.law_messages.proofs.Known.{classed}
 use Rattle.law_counts.specs.Counted.{KnowsHighAlone}
 use Rattle.law_counts.proofs.Opens.{Posted, opened_for, posted, resets_a_target}
 use Rattle.law_counts.proofs.Quiet.{quiet_plug}
-use Rattle.law_counts.proofs.Rules.{IsNoPost, none_stays, quiet_no_posts, resets_stay, state_stays}
+use Rattle.law_counts.proofs.Rules.{IsNoPost, none_stays, quiet_no_posts, resets_stay}
 
 -- it isn't of task management
 abbrev Other : ℕ → Type 0

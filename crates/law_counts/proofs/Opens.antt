@@ -1,8 +1,6 @@
 -- What a post opens for the rule of counts and for the view: what the record of its identifier names.
-use Rattle.std.proofs.Common.{◌≡◌, ℕ, ◌-◌, ◌%◌, ◌<◌, ◌≤◌, ◌==◌, ◌&&◌, inl, inr, not, Bool, true, false, if◌then◌else◌, List, Option, Some, None, option_map, refl, ap, sym, ◌∙◌, subst, arith}
+use Rattle.std.proofs.Common.{◌≡◌, ℕ, ◌==◌, ◌&&◌, inl, inr, Bool, true, false, if◌then◌else◌, List, Option, Some, None, refl, ap, sym, ◌∙◌, arith}
 use Rattle.std.specs.FinMap as finmap
-use native.Mathlib.Nat.{mod-lt}
-use Rattle.mpi_rings.specs.declared.request_descriptor.PostKind.{PostKind}
 use Rattle.mpi_rings.specs.declared.request_descriptor.PostKind.TheVariants as post
 use Rattle.mpt_messages.specs.Function.{byte_of}
 use Rattle.mpt_messages.specs.declared.function.Function.TheVariants as function
@@ -15,14 +13,14 @@ use Rattle.mpt_wire.specs.Paths.TerminationCounts.{AReset, AnAbort, HighPost, No
 use Rattle.mpt_rules.specs.declared.post.Post.{Post}
 use Rattle.mpt_rules.specs.declared.request.Request.{Request}
 use Rattle.mpt_rules.specs.declared.request.Request.TheVariants as request
-use Rattle.mpt_rules.specs.Host.Parts.{Cmd, host_queue_count}
+use Rattle.mpt_rules.specs.Host.Parts.{Cmd}
 use Rattle.mpt_rules.specs.World.State.{World}
 use Rattle.law_facts.specs.Facts.{Facts}
 use Rattle.law_facts.specs.History.{History}
 use Rattle.law_facts.specs.Messages.{CommandPost, PostIs, PostIsRecord}
 use Rattle.law_facts.specs.Words.{slot}
 use Rattle.law_flights.proofs.Descriptors.{kind_posted}
-use Rattle.law_messages.proofs.Known.{command_of, inside}
+use Rattle.law_messages.proofs.Known.{inside}
 use Rattle.law_standing.proofs.PostsPass as passed
 use Rattle.law_counts.proofs.Frames.{TaskReads, ack_no_task, command_no_task, enable_no_task, notification_no_task, page_no_task, removal_no_task, task_reads}
 

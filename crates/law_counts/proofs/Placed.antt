@@ -1,7 +1,7 @@
 -- What the facts say of an identifier of which something is at the fabric, or on its way there.
 use Rattle.std.proofs.Common.{◌≡◌, ℕ, ◌+◌, ◌≤◌, ◌==◌, ◌&&◌, Bool, true, false, not, if◌then◌else◌, List, [], ◌∷◌, ◌++◌, Option, Some, None, is_some, refl, ap, sym, ◌∙◌, subst, arith}
 use Rattle.std.specs.List.{sum_by}
-use Rattle.smid_pool.specs.Pool.{Slot, Free, Open, Parked, is_open, slot_of}
+use Rattle.smid_pool.specs.Pool.{Slot, Free, Open, Parked, is_open}
 use Rattle.mpt_trace.specs.declared.item.Down.{Down}
 use Rattle.mpt_trace.specs.declared.item.Down.TheVariants as downward
 use Rattle.mpt_rules.specs.declared.at_fabric.AtFabric.{AtFabric}
@@ -9,25 +9,25 @@ use Rattle.mpt_rules.specs.declared.at_fabric.AtFabric.TheVariants as at
 use Rattle.mpt_rules.specs.declared.at_fabric.HeldReset.{HeldReset}
 use Rattle.mpt_rules.specs.declared.request.Request.{Request}
 use Rattle.mpt_rules.specs.declared.request.Request.TheVariants as request
-use Rattle.mpt_rules.specs.Ioc.Tables.{is_held_as, is_operational, request_at}
+use Rattle.mpt_rules.specs.Ioc.Tables.{is_held_as, request_at}
 use Rattle.mpt_rules.specs.World.Counts.{how_many, one_if, post_count, queued_count, reply_count}
-use Rattle.mpt_rules.specs.World.Lines.{back_line, down_line, out_line}
-use Rattle.mpt_rules.specs.World.PlaceCounts.{replies_on, smid_count}
+use Rattle.mpt_rules.specs.World.Lines.{back_line, down_line}
+use Rattle.mpt_rules.specs.World.PlaceCounts.{replies_on}
 use Rattle.mpt_rules.specs.World.Places.{is_posted_as}
 use Rattle.mpt_rules.specs.World.State.{World}
 use Rattle.mpt_rules.proofs.Counts.{post_count-append, queued_count-nil}
 use Rattle.law_facts.specs.Clock.{in_reset, is_linked_up, is_live}
 use Rattle.law_facts.specs.Facts.{Facts}
-use Rattle.law_facts.specs.Flights.{abort_tokens, command_tokens, reset_tokens}
+use Rattle.law_facts.specs.Flights.{abort_tokens, reset_tokens}
 use Rattle.law_facts.specs.History.{History}
 use Rattle.law_facts.specs.Messages.{RequestIs}
 use Rattle.law_facts.specs.Paths.{before_fabric}
-use Rattle.law_facts.specs.Words.{is_abort, is_abort_asked, is_command, is_load, is_target_asked, is_target_reset, slot}
+use Rattle.law_facts.specs.Words.{is_abort, is_abort_asked, is_load, is_target_asked, is_target_reset, slot}
 use Rattle.law_moves.proofs.Counted.{fewer_pass, how_many-nil}
 use Rattle.law_asked.proofs.Firm.{Firm, firm_by_tokens, not_live_there}
 use Rattle.law_counts.specs.Counted.{asked_tokens}
-use Rattle.law_counts.proofs.FabricAsks.{both_ends, ends}
-use Rattle.law_counts.proofs.IocAsks.{asked_out, both_out, in_ioc}
+use Rattle.law_counts.proofs.FabricAsks.{ends}
+use Rattle.law_counts.proofs.IocAsks.{asked_out, both_out}
 
 some_of : (o : Option AtFabric) → one_if (is_abort o) + one_if (is_target_reset o) ≤ one_if (is_some o)
 some_of None = omega arith

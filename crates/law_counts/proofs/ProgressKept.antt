@@ -9,8 +9,8 @@ use Rattle.mpi_doorbell.specs.DoorRegisters.{is_fault}
 use Rattle.mpi_rings.specs.declared.request_descriptor.PostKind.TheVariants as post
 use Rattle.smid_pool.specs.Pool.{Slot, Free, Open, Parked}
 use Rattle.mpt_wire.specs.Messages.Fields.{kind_in, smid_in}
-use Rattle.mpt_wire.specs.Paths.TerminationCounts.{AReset, AnAbort, Awaited, Counted, HighPost, NotSent, Progress, closed, count_found, high_next, opened_by, with_progress}
-use Rattle.mpt_wire.specs.Walks.Passes.{EachEntry, state_after}
+use Rattle.mpt_wire.specs.Paths.TerminationCounts.{Awaited, Counted, HighPost, NotSent, Progress, closed, count_found, high_next, opened_by, with_progress}
+use Rattle.mpt_wire.specs.Walks.Passes.{EachEntry}
 use Rattle.mpt_trace.specs.declared.entry.Entry.{Entry}
 use Rattle.mpt_trace.specs.declared.entry.Entry.TheVariants as entry
 use Rattle.mpt_trace.specs.declared.item.Back.{Back}
@@ -22,7 +22,6 @@ use Rattle.mpt_trace.specs.declared.item.Out.{Out}
 use Rattle.mpt_trace.specs.declared.item.Out.TheVariants as out
 use Rattle.mpt_trace.specs.declared.item.Up.{Up}
 use Rattle.mpt_trace.specs.declared.item.Up.TheVariants as upward
-use Rattle.mpt_trace.specs.declared.lane.LaneName.{LaneName}
 use Rattle.mpt_trace.specs.declared.lane.LaneName.TheVariants as lane
 use Rattle.mpt_rules.specs.declared.post.Post.{Post}
 use Rattle.mpt_rules.specs.declared.request.Request.{Request}
@@ -37,14 +36,14 @@ use Rattle.mpt_rules.specs.Ioc.Places.{is_reply_of}
 use Rattle.mpt_rules.specs.Ioc.Replies.{outbox_of}
 use Rattle.mpt_rules.specs.Ioc.Sending.{up_of}
 use Rattle.mpt_rules.specs.Ioc.Steps as step
-use Rattle.mpt_rules.specs.Ioc.Tables.{is_held_as, is_post_of}
+use Rattle.mpt_rules.specs.Ioc.Tables.{is_held_as}
 use Rattle.mpt_rules.specs.Ioc.Takes as adapter
 use Rattle.mpt_rules.specs.Law.{NothingIsStrange}
 use Rattle.mpt_rules.specs.World.Cases.{Case, entries, happens}
 use Rattle.mpt_rules.specs.World.Counts.{how_many, one_if, post_count, queued_count, reply_count}
 use Rattle.mpt_rules.specs.World.FabricCounts.{is_abort_by, is_abort_end_of, is_reset_by, is_reset_end_of}
 use Rattle.mpt_rules.specs.World.Inputs.{host_told}
-use Rattle.mpt_rules.specs.World.Lines.{back_line, down_line, is_high, out_line, said_of}
+use Rattle.mpt_rules.specs.World.Lines.{back_line, down_line, is_high, said_of}
 use Rattle.mpt_rules.specs.World.Places.{is_posted_as}
 use Rattle.mpt_rules.specs.World.State.{World, up_lane, up_on, with_up}
 use Rattle.mpt_rules.proofs.Counts.{post_count-append, post_count-cons, post_count-nil, queued_count-cons, reply_count-cons}
@@ -54,15 +53,14 @@ use Rattle.law_facts.specs.Messages.{AbortSent, AnswersBy, DownIsRecord, OutIs, 
 use Rattle.law_facts.specs.Paths.{before_fabric, opened}
 use Rattle.law_facts.specs.Notices.{is_notice}
 use Rattle.law_facts.specs.Words.{others, slot}
-use Rattle.law_doors.proofs.Whole.{whole_kept}
 use Rattle.law_flights.proofs.HostQuiet.{IsQuiet, quiet, quiet_taken}
 use Rattle.law_flights.proofs.HostTold.{told_input}
 use Rattle.law_flights.proofs.IocTold.{told_back, told_down, told_high, told_normal}
 use Rattle.law_flights.proofs.Rising.{same_identifier}
-use Rattle.law_moves.proofs.CasesTold.{IsPlugWord, OwesTold, kept_told}
+use Rattle.law_moves.proofs.CasesTold.{OwesTold, kept_told}
 use Rattle.law_moves.proofs.Counted.{how_many-cons, others-cons}
 use Rattle.law_moves.proofs.IocTakes.{takes}
-use Rattle.law_messages.proofs.Agreeing.{all_last, same, turned_false}
+use Rattle.law_messages.proofs.Agreeing.{all_last, same}
 use Rattle.law_messages.proofs.Known.{classed, inside}
 use Rattle.law_messages.proofs.Leads.{Leads}
 use Rattle.law_asked.proofs.Firm.{stays}

@@ -1,5 +1,5 @@
 -- What the rule of counts makes of entries, and what the view knows of target resets: what isn't put or taken changes nothing.
-use Rattle.std.proofs.Common.{◌≡◌, ℕ, ◌+◌, ◌==◌, Bool, true, false, if◌then◌else◌, List, [], ◌∷◌, ◌++◌, Option, Some, None, refl, ap, sym, ◌∙◌, subst}
+use Rattle.std.proofs.Common.{◌≡◌, ℕ, Bool, true, false, if◌then◌else◌, List, [], ◌∷◌, ◌++◌, Option, refl, sym, ◌∙◌, subst}
 use Rattle.mpt_trace.specs.declared.entry.Entry.{Entry}
 use Rattle.mpt_trace.specs.declared.entry.Entry.TheVariants as entry
 use Rattle.mpt_trace.specs.declared.item.Back.TheVariants as back
@@ -12,7 +12,7 @@ use Rattle.mpt_trace.specs.declared.lane.LaneName.{LaneName}
 use Rattle.mpt_trace.specs.declared.lane.LaneName.TheVariants as lane
 use Rattle.mpt_wire.specs.Machine.SoFar.{SoFar, after_entry, after_put}
 use Rattle.mpt_wire.specs.Machine.View.{Seen, seen_next}
-use Rattle.mpt_wire.specs.Paths.TerminationCounts.{Awaited, Counted, HighAsks, HighPost, NoPost, closed, count_found, high_next, with_progress}
+use Rattle.mpt_wire.specs.Paths.TerminationCounts.{HighAsks, HighPost, NoPost, high_next}
 use Rattle.mpt_wire.specs.Walks.Ahead.{next_own, state_ahead}
 use Rattle.mpt_wire.specs.Walks.Passes.{EachEntry, Passes, state_after}
 use Rattle.law_facts.specs.History.{History, history_after}

@@ -1,5 +1,5 @@
 -- What is shown of the counts of aborts and target resets.
-use Rattle.std.proofs.Common.{◌≡◌, ℕ, zero, suc, ◌+◌, ◌≤◌, ◌==◌, ◌||◌, not, Bool, true, false, List, [], ◌∷◌, get_or, Option, Some, None, is_some, refl, ap, sym, ◌∙◌, arith}
+use Rattle.std.proofs.Common.{◌≡◌, ℕ, zero, suc, ◌+◌, ◌≤◌, ◌||◌, Bool, true, false, List, [], ◌∷◌, get_or, Option, Some, None, is_some, refl, sym, ◌∙◌, arith}
 use Rattle.mpi_doorbell.specs.DoorRegisters.{is_fault}
 use Rattle.mpi_doorbell.specs.declared.state.IocState.{IocState}
 use Rattle.mpi_doorbell.specs.declared.state.IocState.TheVariants as ioc_state
@@ -11,12 +11,11 @@ use Rattle.mpt_rules.specs.Law.{NothingIsStrange}
 use Rattle.mpt_rules.specs.World.Cases.{Case, entries, happens}
 use Rattle.mpt_rules.specs.World.Counts.{how_many, one_if}
 use Rattle.mpt_rules.specs.World.FabricCounts.{sent_abort_count, sent_reset_count}
-use Rattle.mpt_rules.specs.World.Lines.{back_line}
 use Rattle.mpt_rules.specs.World.Settings.{Setting, first_world}
 use Rattle.mpt_rules.specs.World.State.{World}
-use Rattle.law_facts.specs.Clock.{Clock, is_live}
+use Rattle.law_facts.specs.Clock.{is_live}
 use Rattle.law_facts.specs.Facts.{Facts}
-use Rattle.law_facts.specs.Flights.{OneAtFabric, abort_tokens, reset_tokens}
+use Rattle.law_facts.specs.Flights.{OneAtFabric}
 use Rattle.law_facts.specs.History.{History, first_history, history_after}
 use Rattle.law_facts.specs.Paths.{is_asked_of_fabric, opened}
 use Rattle.law_facts.specs.Words.{is_abort, is_bare, is_target_reset, slot}
@@ -26,9 +25,9 @@ use Rattle.law_moves.proofs.Counted.{how_many-cons}
 use Rattle.law_messages.specs.Numbers.{AbortsAreAccepted}
 use Rattle.law_messages.proofs.Shown.{leads}
 use Rattle.law_orders.proofs.Kept.{orders_kept}
-use Rattle.law_counts.specs.Counted.{CountsFit, CountsKept, FabricAnswers, ProgressKept, ProgressStands, asked_tokens}
-use Rattle.law_counts.proofs.FabricAsks.{ends, no_end}
-use Rattle.law_counts.proofs.IocAsks.{asked_out, both_out, none_out}
+use Rattle.law_counts.specs.Counted.{CountsFit, CountsKept, FabricAnswers, ProgressKept, ProgressStands}
+use Rattle.law_counts.proofs.FabricAsks.{no_end}
+use Rattle.law_counts.proofs.IocAsks.{both_out, none_out}
 use Rattle.law_counts.proofs.CountsKept as counts
 use Rattle.law_counts.proofs.FitsKept.{fits_kept}
 use Rattle.law_counts.proofs.ProgressKept as progress
