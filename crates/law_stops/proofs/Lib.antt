@@ -1,1 +1,2 @@
 pub mod Highs
+pub mod OneEnd

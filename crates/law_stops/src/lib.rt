@@ -4,4 +4,4 @@
 
 mod laws;
 
-pub use laws::highs_agree;
+pub use laws::{ends_agree_at_first, ends_stay_agreed, highs_agree};
