@@ -1,5 +1,5 @@
 -- Each case keeps that no reply to a command says something else, once one said that it was stopped.
-use Rattle.std.proofs.Common.{◌≡◌, ℕ, zero, suc, ◌+◌, ◌<◌, ◌≤◌, ◌==◌, ◌&&◌, ◌⊎◌, inl, inr, nat_le, Bool, true, false, if◌then◌else◌, List, [], ◌∷◌, ◌++◌, get_or, map, slice_get, Option, Some, None, refl, ap, sym, ◌∙◌, subst, arith}
+use Rattle.std.proofs.Common.{◌≡◌, ℕ, zero, suc, ◌<◌, ◌≤◌, ◌==◌, ◌&&◌, ◌⊎◌, inl, inr, nat_le, Bool, true, false, if◌then◌else◌, List, [], ◌∷◌, get_or, map, slice_get, Option, Some, None, refl, ap, sym, ◌∙◌, subst, arith}
 use Rattle.std.specs.Prelude.{All}
 use Rattle.std.specs.List.{sum_by}
 use Rattle.std.proofs.lemmas.Bool.{eqb-true}
@@ -8,11 +8,9 @@ use Rattle.std.proofs.lemmas.List.Sums.{sum_by-cons}
 use Rattle.smid_pool.specs.Pool.{Slot, Free, Open, Parked}
 use Rattle.mpt_trace.specs.declared.entry.Entry.{Entry}
 use Rattle.mpt_trace.specs.declared.entry.Entry.TheVariants as entry
-use Rattle.mpt_trace.specs.declared.item.Down.{Down}
 use Rattle.mpt_trace.specs.declared.item.Down.TheVariants as downward
 use Rattle.mpt_trace.specs.declared.item.Item.{Item}
 use Rattle.mpt_trace.specs.declared.item.Item.TheVariants as item
-use Rattle.mpt_trace.specs.declared.item.Out.{Out}
 use Rattle.mpt_trace.specs.declared.item.Out.TheVariants as out
 use Rattle.mpt_trace.specs.declared.item.Up.{Up}
 use Rattle.mpt_trace.specs.declared.item.Up.TheVariants as upward
