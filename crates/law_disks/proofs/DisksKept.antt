@@ -1,5 +1,5 @@
 -- The machine's disks are the fabric's, over every case.
-use Rattle.std.proofs.Common.{◌≡◌, ℕ, zero, suc, Bool, true, false, if◌then◌else◌, List, [], ◌∷◌, ◌++◌, map, Option, Some, None, refl, ap, sym, ◌∙◌, subst, slice_get}
+use Rattle.std.proofs.Common.{◌≡◌, ℕ, zero, suc, Bool, true, false, List, [], ◌∷◌, Option, Some, None, refl, sym, subst}
 use Rattle.std.specs.List.{find}
 use Rattle.mpt_wire.specs.Walks.Passes.{EachEntry}
 use Rattle.mpt_trace.specs.declared.choice.Choice.{Choice}
@@ -23,7 +23,6 @@ use Rattle.mpt_rules.specs.Ioc.Parts.{Ioc}
 use Rattle.mpt_rules.specs.Ioc.Takes as adapter
 use Rattle.mpt_rules.specs.Law.{NothingIsStrange}
 use Rattle.mpt_rules.specs.World.Cases.{Case, Told, Chosen, HostLooks, HostStops, FabricCalms, case_of, entries, happens, moves_or_idles}
-use Rattle.mpt_rules.specs.World.Inputs.{host_told}
 use Rattle.mpt_rules.specs.World.Moves as move
 use Rattle.mpt_rules.specs.World.State.{World, up_on, with_up}
 use Rattle.law_facts.specs.Disks.{DiskIs, SameDisk}
@@ -33,7 +32,6 @@ use Rattle.law_machine.proofs.Inputs.{seen}
 use Rattle.law_machine.proofs.IocSilent.{told_back, told_down, told_high, told_normal}
 use Rattle.law_machine.proofs.SameDisks.{run_keeps}
 use Rattle.law_machine.proofs.SamePlugs.{plug_keeps, unplug_keeps}
-use Rattle.law_moves.proofs.Cases.{IsHosts}
 use Rattle.law_disks.proofs.Dry.{IsDry, dry_disks, input_dry, item_dry, silents_dry}
 
 -- an item of the lane out leaves the disks

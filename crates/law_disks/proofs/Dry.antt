@@ -1,5 +1,5 @@
 -- Entries that change no disk of the machine: all but a run, a plug and an unplug.
-use Rattle.std.proofs.Common.{◌≡◌, ℕ, ◌==◌, ◌&&◌, Bool, true, false, if◌then◌else◌, List, [], ◌∷◌, ◌++◌, Option, Some, None, refl, ap, ◌∙◌, sym, subst, arith}
+use Rattle.std.proofs.Common.{◌≡◌, ℕ, ◌==◌, ◌&&◌, Bool, true, false, if◌then◌else◌, List, [], ◌∷◌, ◌++◌, Option, Some, None, refl, ap, ◌∙◌, sym, subst}
 use Rattle.std.specs.FinSet as finset
 use Rattle.removal.specs.Handles.{ready_handle}
 use Rattle.scsi_disk.specs.Command.{fits}
@@ -25,15 +25,12 @@ use Rattle.mpt_trace.specs.declared.input.Input.TheVariants as input
 use Rattle.mpt_trace.specs.declared.outcome.AbortOutcome.{AbortOutcome}
 use Rattle.mpt_trace.specs.declared.outcome.AbortOutcome.TheVariants as abort
 use Rattle.mpt_trace.specs.declared.refusal.Refusal.{Refusal}
-use Rattle.mpt_trace.specs.declared.refusal.RefusedCall.{RefusedCall}
 use Rattle.mpt_trace.specs.declared.refusal.RefusedCall.TheVariants as refused
 use Rattle.mpt_rules.specs.Host.Inputs as inputs
 use Rattle.mpt_rules.specs.Host.Parts.{Cmd, Host}
-use Rattle.mpt_rules.specs.Outcome.{Called}
 use Rattle.mpt_rules.specs.World.Inputs.{by_option, by_result, host_told}
 use Rattle.mpt_rules.proofs.HostCalls.{aborts_by, resets_target_by, submits_by}
 use Rattle.mpt_rules.specs.Host.Takes.{hears_up}
-use Rattle.mpt_rules.specs.Ioc.Parts.{Ioc}
 use Rattle.mpt_trace.specs.declared.item.Up.{Up}
 use Rattle.law_moves.proofs.Cases.{IsHosts}
 use Rattle.law_moves.proofs.HostWords.{EndsIt, HostTells, IsHostWord, Words, host_tells}

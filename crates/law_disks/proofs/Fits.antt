@@ -5,7 +5,6 @@ use Rattle.std.specs.FinSet as set
 use Rattle.std.specs.Ordering.{eq_by_cmp, nat_cmp}
 use Rattle.std.proofs.lemmas.Cmp.{nat_cmp_total}
 use Rattle.std.proofs.lemmas.Bool.{eqb-true}
-use Rattle.scsi_disk.specs.Command.{fits}
 use Rattle.scsi_disk.specs.Performed.{performed}
 use Rattle.scsi_disk.specs.declared.command.Command.{Command}
 use Rattle.scsi_disk.specs.declared.scsi_result.ScsiResult.{ScsiResult}
@@ -19,8 +18,8 @@ use Rattle.mpt_trace.specs.declared.entry.Entry.{Entry}
 use Rattle.mpt_trace.specs.declared.outcome.AbortOutcome.{AbortOutcome}
 use Rattle.mpt_trace.specs.declared.outcome.AbortOutcome.TheVariants as abort
 use Rattle.law_machine.proofs.Silent.{Passed}
-use Rattle.law_messages.proofs.Keys.{get_inserted, get_other_inserted, get_removed, get_other_removed, removed_less, same_key}
-use Rattle.law_disks.specs.Machine.{EachRequestFits, MachineFits, Numbers, NumbersFit, PlugsFit, RequestFits, Requests, is_known}
+use Rattle.law_messages.proofs.Keys.{get_inserted, get_other_inserted, removed_less, same_key}
+use Rattle.law_disks.specs.Machine.{EachRequestFits, MachineFits, Numbers, PlugsFit, RequestFits, Requests, is_known}
 
 -- ---- over the entries of a case
 

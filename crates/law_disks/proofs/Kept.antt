@@ -1,9 +1,9 @@
 -- What holds of the machine by its own steps, over every case.
-use Rattle.std.proofs.Common.{◌≡◌, ℕ, ◌≤◌, ◌&&◌, ◌||◌, not, Bool, true, false, List, Option, Some, None, is_some, is_none, refl, ap, sym, ◌∙◌, subst, arith}
+use Rattle.std.proofs.Common.{◌≡◌, ℕ, ◌&&◌, Bool, true, false, List, Option, Some, None, is_some, is_none, refl, ap, sym, ◌∙◌}
 use Rattle.std.specs.FinMap as finmap
 use Rattle.std.specs.FinSet as set
 use Rattle.mpt_trace.specs.declared.disk_spec.DiskSpec.{DiskSpec}
-use Rattle.mpt_wire.specs.Machine.State.{OpenRequest, plugs_of}
+use Rattle.mpt_wire.specs.Machine.State.{OpenRequest}
 use Rattle.mpt_rules.specs.Host.Parts.{Cmd}
 use Rattle.mpt_rules.specs.Law.{NothingIsStrange}
 use Rattle.mpt_rules.specs.World.Cases.{Case, entries}

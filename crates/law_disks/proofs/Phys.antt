@@ -1,5 +1,5 @@
 -- The controller's phys stay as they are, whatever it takes.
-use Rattle.std.proofs.Common.{◌≡◌, ℕ, zero, suc, ◌-◌, ◌^◌, ◌<◌, ◌≤◌, ◌&&◌, ◌||◌, ◌==◌, nat_le, nat_lt, not, Bool, true, false, if◌then◌else◌, List, [], ◌∷◌, ◌++◌, length, take, slice_index, slice_index_or, Option, Some, None, sym, subst, arith}
+use Rattle.std.proofs.Common.{◌≡◌, ℕ, ◌&&◌, ◌||◌, ◌==◌, nat_lt, not, Bool, true, false, if◌then◌else◌, List, [], ◌∷◌, ◌++◌, length, take, slice_index, Option, Some, None, sym, subst}
 use Rattle.std.specs.List.{position}
 use Rattle.mpi_doorbell.specs.DoorRegisters.{is_fault, linked_up, register_written}
 use Rattle.mpi_doorbell.specs.declared.effect.Effect.{Effect}

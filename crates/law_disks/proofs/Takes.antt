@@ -1,15 +1,14 @@
 -- What is taken from a lane counts departures, and changes nothing else of the machine.
-use Rattle.std.proofs.Common.{◌≡◌, ℕ, ◌+◌, ◌-◌, ◌==◌, ◌&&◌, not, Bool, true, false, if◌then◌else◌, List, [], ◌∷◌, ◌++◌, Option, Some, None, refl, subst}
+use Rattle.std.proofs.Common.{◌≡◌, ℕ, ◌+◌, ◌-◌, ◌==◌, ◌&&◌, not, Bool, true, false, if◌then◌else◌, List, [], ◌∷◌, ◌++◌, Option, Some, None, refl}
 use Rattle.mpt_wire.specs.Messages.Fields.{Change, changes_in, smid_in, target_not_responding}
 use Rattle.mpt_wire.specs.Machine.SoFar.{SoFar, announced_next}
 use Rattle.mpt_wire.specs.Machine.State.{Machine}
-use Rattle.mpt_wire.specs.Machine.Steps.{HasLeft, Leaves, Step, after_all}
+use Rattle.mpt_wire.specs.Machine.Steps.{HasLeft, Leaves, after_all}
 use Rattle.mpt_wire.specs.Machine.View.{departures, is_target_end, let_go, steps_of}
 use Rattle.mpt_trace.specs.declared.entry.Entry.{Entry}
 use Rattle.mpt_trace.specs.declared.entry.Entry.TheVariants as entry
 use Rattle.mpt_trace.specs.declared.item.Item.{Item}
 use Rattle.mpt_trace.specs.declared.item.Item.TheVariants as item
-use Rattle.mpt_trace.specs.declared.item.Up.{Up}
 use Rattle.mpt_trace.specs.declared.item.Up.TheVariants as upward
 use Rattle.mpt_trace.specs.declared.lane.LaneName.{LaneName}
 use Rattle.mpt_trace.specs.declared.lane.LaneName.TheVariants as lane

@@ -1,5 +1,5 @@
 -- The disks' addresses and the phys stay as they were declared, over every case.
-use Rattle.std.proofs.Common.{◌≡◌, ℕ, ◌==◌, ◌&&◌, Bool, true, false, if◌then◌else◌, List, [], ◌∷◌, ◌++◌, map, Option, Some, None, refl, ap, ap₂, sym, ◌∙◌, subst}
+use Rattle.std.proofs.Common.{◌≡◌, ℕ, ◌==◌, Bool, true, false, if◌then◌else◌, List, [], ◌∷◌, ◌++◌, map, Option, Some, None, refl, ap, ap₂, sym, ◌∙◌}
 use Rattle.std.specs.List.{filter, find}
 use Rattle.mpt_wire.specs.Machine.Causes as calls
 use Rattle.mpt_wire.specs.Machine.State.{Machine, MachineDisk, OpenRequest, Place}

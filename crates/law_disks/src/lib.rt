@@ -3,4 +3,6 @@
 
 mod laws;
 
-pub use laws::{addresses_are_the_fabrics, disks_are_the_fabrics, machine_stays_fit, ready_was_plugged_at_first};
+pub use laws::{
+    addresses_are_the_fabrics, disks_are_the_fabrics, machine_stays_fit, ready_was_plugged_at_first,
+};

@@ -54,6 +54,10 @@ unfolding behind
 behind_is g [] = refl
 behind_is g (e ∷ t) = ap (λ u. state_ahead seen_next (seen_next g e (next_own e u)) t []) (no_more t) ∙ behind_is (seen_next g e (next_own e t)) t
 
+pub behind_nil : (g : Seen) → behind g [] ≡ g
+unfolding behind
+behind_nil g = refl
+
 pub behind_cons : (g : Seen) (e : Entry) (t : List Entry) → behind g (e ∷ t) ≡ behind (seen_next g e (next_own e t)) t
 unfolding behind
 behind_cons g e t = refl
@@ -148,16 +152,13 @@ is_end_targets (Open request.PortEnable ∷ xs) = is_end_targets xs
 told_ends : (k : Host) → EachEntry IsEnd (resets.reset_told k)
 told_ends k = is_end_map resets.reset_answer (λ n. tt) (finmap.keys k.cmds) _ (is_end_map resets.reset_abort (λ n. tt) (finmap.keys k.aborts) _ (is_end_targets k.pool))
 
-told_bare : (k : Host) (g : Seen) → Passed g (resets.reset_told k) → IsBare (behind g (resets.reset_told k)).machine
-told_bare k g p = by_words (resets.reset_told k) (ends k) p
-  where
-    ends : (k : Host) → (told : List Entry) × (resets.reset_told k ≡ told ++ entry.ResetDone ∷ [])
-    ends k = (Rattle.std.specs.Prelude.map resets.reset_answer (finmap.keys k.cmds) ++ (Rattle.std.specs.Prelude.map resets.reset_abort (finmap.keys k.aborts) ++ Rattle.std.specs.Prelude.filter_map resets.reset_target k.pool),
-        sym (Rattle.std.proofs.Common.append_assoc (Rattle.std.specs.Prelude.map resets.reset_answer (finmap.keys k.cmds)) (Rattle.std.specs.Prelude.map resets.reset_abort (finmap.keys k.aborts) ++ Rattle.std.specs.Prelude.filter_map resets.reset_target k.pool) (entry.ResetDone ∷ [])
-        ∙ ap (λ v. Rattle.std.specs.Prelude.map resets.reset_answer (finmap.keys k.cmds) ++ v) (Rattle.std.proofs.Common.append_assoc (Rattle.std.specs.Prelude.map resets.reset_abort (finmap.keys k.aborts)) (Rattle.std.specs.Prelude.filter_map resets.reset_target k.pool) (entry.ResetDone ∷ []))))
+pub told_splits : (k : Host) → (told : List Entry) × (resets.reset_told k ≡ told ++ entry.ResetDone ∷ [])
+told_splits k = (Rattle.std.specs.Prelude.map resets.reset_answer (finmap.keys k.cmds) ++ (Rattle.std.specs.Prelude.map resets.reset_abort (finmap.keys k.aborts) ++ Rattle.std.specs.Prelude.filter_map resets.reset_target k.pool),
+    sym (Rattle.std.proofs.Common.append_assoc (Rattle.std.specs.Prelude.map resets.reset_answer (finmap.keys k.cmds)) (Rattle.std.specs.Prelude.map resets.reset_abort (finmap.keys k.aborts) ++ Rattle.std.specs.Prelude.filter_map resets.reset_target k.pool) (entry.ResetDone ∷ [])
+    ∙ ap (λ v. Rattle.std.specs.Prelude.map resets.reset_answer (finmap.keys k.cmds) ++ v) (Rattle.std.proofs.Common.append_assoc (Rattle.std.specs.Prelude.map resets.reset_abort (finmap.keys k.aborts)) (Rattle.std.specs.Prelude.filter_map resets.reset_target k.pool) (entry.ResetDone ∷ []))))
 
-    by_words : (t : List Entry) → (told : List Entry) × (t ≡ told ++ entry.ResetDone ∷ []) → Passed g t → IsBare (behind g t).machine
-    by_words t e p = subst (λ u. IsBare (behind g u).machine) (sym e.1) (end_bare g e.0 (subst (Passed g) e.1 p))
+pub told_bare : (k : Host) (g : Seen) → Passed g (resets.reset_told k) → IsBare (behind g (resets.reset_told k)).machine
+told_bare k g p = let e = told_splits k in subst (λ u. IsBare (behind g u).machine) (sym e.1) (end_bare g e.0 (subst (Passed g) e.1 p))
 
 none_in : (n a : ℕ) → how_many (resets_address a) (replicate n Free) ≡ 0
 none_in zero a = how_many-nil (resets_address a)

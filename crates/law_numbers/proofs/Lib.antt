@@ -3,3 +3,7 @@ pub mod Calls
 pub mod Ends
 pub mod Turns
 pub mod Kept
+pub mod Tally
+pub mod TallyCalls
+pub mod TallyTurns
+pub mod TallyKept

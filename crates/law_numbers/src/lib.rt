@@ -3,4 +3,4 @@
 
 mod laws;
 
-pub use laws::{numbers_are_the_hosts, resets_are_the_hosts};
+pub use laws::{numbers_are_the_hosts, resets_are_the_hosts, tallies_are_the_hosts};

@@ -1,8 +1,7 @@
 -- The event that the host takes says steps that the machine allows: a disk that is told lost was ready with a plug that has ended.
-use Rattle.std.proofs.Common.{◌≡◌, ◌≢◌, ◌⊎◌, inl, inr, ℕ, zero, suc, ◌==◌, ◌&&◌, not, Bool, true, false, if◌then◌else◌, List, [], ◌∷◌, ◌++◌, map, filter_map, Option, Some, None, refl, ap, sym, ◌∙◌, subst, arith}
-use Rattle.std.specs.Prelude.{All}
+use Rattle.std.proofs.Common.{◌≡◌, ℕ, ◌==◌, ◌&&◌, not, Bool, true, false, if◌then◌else◌, List, [], ◌∷◌, ◌++◌, map, filter_map, Option, Some, None, refl, ap, sym, ◌∙◌, subst, arith}
 use Rattle.mpi_layout.specs.Rows.{field}
-use Rattle.smid_pool.specs.Pool.{Slot, Free, Open, Parked, least_free, record_of, slot_of}
+use Rattle.smid_pool.specs.Pool.{least_free}
 use Rattle.smid_pool.specs.declared.class.Class.TheVariants as class
 use Rattle.removal.specs.Handles.{IsHandle, phase_at}
 use Rattle.removal.specs.declared.phase.Phase.{Phase}
@@ -15,33 +14,30 @@ use Rattle.mpt_wire.specs.Machine.Steps.{Allowed, IsLost, IsRunFrom, Leaves, May
 use Rattle.mpt_wire.specs.Machine.View.{Seen, departures}
 use Rattle.mpt_trace.specs.declared.entry.Entry.{Entry}
 use Rattle.mpt_trace.specs.declared.entry.Entry.TheVariants as entry
-use Rattle.mpt_trace.specs.declared.item.Up.{Up}
 use Rattle.mpt_trace.specs.declared.item.Up.TheVariants as upward
 use Rattle.mpt_rules.specs.declared.binding.Binding.{Binding}
 use Rattle.mpt_rules.specs.declared.binding.Binding.TheVariants as binding
-use Rattle.mpt_rules.specs.declared.request.Request.{Request}
 use Rattle.mpt_rules.specs.declared.request.Request.TheVariants as request
 use Rattle.mpt_rules.specs.declared.said.Said.{Said}
 use Rattle.mpt_rules.specs.declared.said.Said.TheVariants as said
 use Rattle.mpt_rules.specs.Host.Parts.{Host}
 use Rattle.mpt_rules.specs.Host.Posts as asks
 use Rattle.mpt_rules.specs.Host.Removal as removal
-use Rattle.mpt_rules.specs.Host.Replies.{heard_of, hears_reply_to, takes_entry, with_frame_heard}
+use Rattle.mpt_rules.specs.Host.Replies.{heard_of, hears_reply_to}
 use Rattle.mpt_rules.specs.Ioc.Tables.{binding_of}
-use Rattle.mpt_rules.specs.World.Lines.{said_reply, up_line}
+use Rattle.mpt_rules.specs.World.Lines.{up_line}
 use Rattle.mpt_rules.specs.World.News as news
 use Rattle.mpt_rules.specs.World.News.{News, news_by_status, news_in, news_in_change}
-use Rattle.mpt_rules.specs.World.State.{World, up_on}
+use Rattle.mpt_rules.specs.World.State.{World}
 use Rattle.mpt_rules.specs.World.Weight.{is_gone_binding}
 use Rattle.law_facts.specs.Clock.{in_normal, is_live}
 use Rattle.law_facts.specs.Disks.{ReadyFits}
 use Rattle.law_facts.specs.Facts.{Facts}
 use Rattle.law_facts.specs.Handles.{Goes, IsFreed, Left, Side, There, Turn, phase_of, replayed, side_of_binding, side_of_phase, turn_of, turns_of}
 use Rattle.law_facts.specs.History.{History}
-use Rattle.law_facts.specs.Messages.{IsEvent, SaidIs, event_like}
-use Rattle.law_facts.specs.Words.{slot}
+use Rattle.law_facts.specs.Messages.{event_like}
 use Rattle.law_machine.proofs.Inputs.{seen}
-use Rattle.law_machine.proofs.Lane.{Same, head_of, heard_same, line_is, taking}
+use Rattle.law_machine.proofs.Lane.{Same, taking}
 use Rattle.law_machine.proofs.Silent.{Passed}
 use Rattle.law_says.proofs.Events.{change_of, changes_are, live, normal}
 
@@ -138,9 +134,10 @@ module _ (w : World) (h : History) (facts : Facts w h) (d : ℕ) (bytes : List �
       → ((g : Seen) → g.machine.disks ≡ h.machine.disks → g.machine.ready ≡ h.machine.ready → Passed g t) → Passed (seen h) (taken 0 ∷ t)
   pass b t e f =
       let s = departs_same h.machine b in
-      let g = Rattle.mpt_wire.specs.Machine.View.seen_next (seen h) (taken 0) (Rattle.mpt_wire.specs.Walks.Ahead.next_own (taken 0) t) in
-      (subst (IsRunFrom h.machine) (sym e) (departs_run h.machine b),
-       f g (ap (λ xs. (after_all h.machine xs).disks) e ∙ s.0) (ap (λ xs. (after_all h.machine xs).ready) e ∙ s.1))
+      let g = Rattle.mpt_wire.specs.Machine.View.seen_next (seen h) (taken 0) (Rattle.mpt_wire.specs.Walks.Ahead.next_own (taken 0) t) in (
+        subst (IsRunFrom h.machine) (sym e) (departs_run h.machine b),
+        f g (ap (λ xs. (after_all h.machine xs).disks) e ∙ s.0) (ap (λ xs. (after_all h.machine xs).ready) e ∙ s.1),
+      )
 
   module _ (k : Host) (same : Same k w.host) (z : smid_in d ≡ 0) where
     acked : Host

@@ -1,11 +1,7 @@
 -- Each case says steps that the machine allows.
-use Rattle.std.proofs.Common.{◌≡◌, ◌⊎◌, inl, inr, ℕ, zero, suc, ◌^◌, ◌<◌, ◌≤◌, Bool, true, false, List, [], ◌∷◌, ◌++◌, length, map, Option, Some, None, IsTrue, refl, ap, sym, ◌∙◌, subst, arith}
+use Rattle.std.proofs.Common.{◌≡◌, inl, inr, ℕ, zero, suc, true, false, List, [], ◌∷◌, ◌++◌, map, Option, Some, None, refl, ap, sym, ◌∙◌, subst, arith}
 use Rattle.std.specs.FinMap as finmap
-use Rattle.scsi_disk.specs.declared.scsi_result.ScsiResult.{ScsiResult}
-use Rattle.mpi_layout.specs.Rows.{field}
-use Rattle.removal.specs.Handles.{IsHandle}
 use Rattle.smid_pool.specs.Pool.{Slot, Free, Open, Parked, record_of}
-use Rattle.mpt_wire.specs.Machine.State.{OpenRequest}
 use Rattle.mpt_wire.specs.Messages.Fields.{smid_in}
 use Rattle.mpt_trace.specs.declared.item.Up.{Up}
 use Rattle.mpt_trace.specs.declared.item.Up.TheVariants as upward
@@ -24,7 +20,7 @@ use Rattle.law_machine.specs.Premises.{ResultsFit}
 use Rattle.law_machine.proofs.Inputs.{seen}
 use Rattle.law_machine.proofs.Lane.{head_of, heard_same, line_is, taking}
 use Rattle.law_machine.proofs.Silent.{Passed}
-use Rattle.law_machine.proofs.Steps.{Left, steps_pass}
+use Rattle.law_machine.proofs.Steps.{steps_pass}
 use Rattle.law_standing.specs.Written.{OutcomesFit}
 use Rattle.law_standing.proofs.RepliesPass.{moved_short}
 use Rattle.law_runs.proofs.Events.{event_passes}
