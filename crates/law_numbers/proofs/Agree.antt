@@ -1,11 +1,11 @@
 -- What the machine has of numbers and of target resets, and what the host has: over the fields that are read.
-use Rattle.std.proofs.Common.{◌≡◌, ◌≢◌, ℕ, zero, suc, ◌+◌, ◌-◌, ◌≤◌, ◌<◌, ◌==◌, ◌&&◌, ◌||◌, not, cond, Bool, true, false, if◌then◌else◌, List, [], ◌∷◌, ◌++◌, length, get_or, set, Option, Some, None, is_some, is_none, refl, ap, sym, ◌∙◌, subst, arith}
+use Rattle.std.proofs.Common.{◌≡◌, ℕ, zero, suc, ◌+◌, ◌-◌, ◌≤◌, ◌<◌, ◌==◌, ◌&&◌, ◌||◌, not, cond, Bool, true, false, if◌then◌else◌, List, [], ◌∷◌, ◌++◌, length, get_or, set, Option, Some, None, is_some, is_none, refl, ap, sym, ◌∙◌, subst, arith}
 use Rattle.std.specs.FinMap as finmap
 use Rattle.std.specs.FinSet as finset
 use Rattle.std.specs.Ordering.{eq_by_cmp, nat_cmp}
 use Rattle.std.proofs.lemmas.Cmp.{nat_cmp_total}
 use Rattle.std.proofs.lemmas.Bool.{eqb-true}
-use Rattle.smid_pool.specs.Pool.{Slot, Free, Open, Parked, slot_of}
+use Rattle.smid_pool.specs.Pool.{Slot, Free, Open, slot_of}
 use Rattle.mpt_wire.specs.Machine.Causes as calls
 use Rattle.mpt_wire.specs.Machine.Calls.{call_of, is_call_answered, is_call_refused, refused_submit, refused_call}
 use Rattle.mpt_wire.specs.Machine.SoFar.{SoFar}
@@ -23,7 +23,6 @@ use Rattle.mpt_trace.specs.declared.lane.LaneName.{LaneName}
 use Rattle.mpt_trace.specs.declared.outcome.Outcome.{Outcome as Ending}
 use Rattle.mpt_trace.specs.declared.outcome.AbortOutcome.{AbortOutcome}
 use Rattle.mpt_trace.specs.declared.outcome.AbortOutcome.TheVariants as abort
-use Rattle.mpt_trace.specs.declared.outcome.TargetOutcome.{TargetOutcome}
 use Rattle.mpt_rules.specs.declared.request.Request.{Request}
 use Rattle.mpt_rules.specs.declared.request.Request.TheVariants as request
 use Rattle.mpt_rules.specs.Host.Parts.{Cmd, Host}
@@ -35,7 +34,6 @@ use Rattle.law_facts.specs.History.{History}
 use Rattle.law_facts.specs.Words.{resets_address}
 use Rattle.law_machine.proofs.Counted.{one_more}
 use Rattle.law_messages.proofs.Keys.{same_key}
-use Rattle.law_moves.proofs.Counted.{how_many-nil}
 use Rattle.law_disks.proofs.Dry.{refuses}
 use Rattle.law_disks.proofs.Takes.{take_leaves}
 use Rattle.law_disks.specs.Machine.{Numbers, Requests}

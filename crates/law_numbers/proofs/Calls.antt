@@ -1,30 +1,23 @@
 -- What the host's calls do to numbers and target resets, with what they tell.
-use Rattle.std.proofs.Common.{◌≡◌, ◌≢◌, ℕ, zero, suc, ◌+◌, ◌-◌, ◌≤◌, ◌<◌, ◌==◌, ◌&&◌, cond, Bool, true, false, if◌then◌else◌, List, [], ◌∷◌, ◌++◌, length, set, Option, Some, None, is_some, refl, ap, sym, ◌∙◌, subst, arith}
-use Rattle.std.specs.List.{fold, range_with_len}
+use Rattle.std.proofs.Common.{◌≡◌, ◌≢◌, ℕ, ◌-◌, ◌≤◌, ◌<◌, ◌==◌, cond, Bool, true, false, if◌then◌else◌, List, [], ◌∷◌, ◌++◌, length, set, Option, Some, None, is_some, refl, ap, ◌∙◌, arith}
 use Rattle.std.specs.FinMap as finmap
 use Rattle.std.specs.FinSet as finset
-use Rattle.smid_pool.specs.Pool.{Slot, Free, Open, Parked, least_free, record_of, slot_of}
+use Rattle.smid_pool.specs.Pool.{Slot, Free, Open, Parked, least_free, slot_of}
 use Rattle.smid_pool.specs.declared.class.Class.TheVariants as class
 use Rattle.removal.specs.Handles.{phase_at, with_phase}
 use Rattle.removal.specs.Phases.{after_added, after_gone, after_page, after_removed, after_task_done}
 use Rattle.removal.specs.declared.phase.Phase.{Phase}
 use Rattle.removal.specs.declared.phase.Phase.TheVariants as phase
-use Rattle.mpi_doorbell.specs.HostDoor.{HostDoor}
-use Rattle.mpi_doorbell.specs.declared.step.DoorStep.{DoorStep}
-use Rattle.mpi_doorbell.specs.declared.step.DoorStep.TheVariants as step
 use Rattle.mpt_wire.specs.Machine.Causes.{is_resetting}
 use Rattle.mpt_wire.specs.Messages.Fields.{Change, changes_in, event_context_in, event_in, smid_in, target_added, target_not_responding}
 use Rattle.mpt_wire.specs.Machine.State.{put_at}
 use Rattle.mpt_wire.specs.Machine.View.{Seen, seen_next}
-use Rattle.mpt_wire.specs.Walks.Ahead.{next_own, state_ahead}
+use Rattle.mpt_wire.specs.Walks.Ahead.{state_ahead}
 use Rattle.mpt_wire.specs.Walks.Passes.{EachEntry}
 use Rattle.mpt_trace.specs.declared.entry.Entry.{Entry}
 use Rattle.mpt_trace.specs.declared.entry.Entry.TheVariants as entry
-use Rattle.mpt_trace.specs.declared.outcome.TargetOutcome.TheVariants as target
 use Rattle.mpt_rules.specs.declared.request.Request.{Request}
 use Rattle.mpt_rules.specs.declared.request.Request.TheVariants as request
-use Rattle.mpt_rules.specs.declared.stage.Stage.{Stage}
-use Rattle.mpt_rules.specs.Host.Doorbell as door
 use Rattle.mpt_rules.specs.Host.Parts.{Host}
 use Rattle.mpt_rules.specs.Host.Posts as asks
 use Rattle.mpt_rules.specs.Host.Removal as removal
@@ -32,7 +25,7 @@ use Rattle.mpt_rules.specs.Host.Replies as replies
 use Rattle.mpt_rules.specs.Host.Replies.{Heard}
 use Rattle.mpt_rules.specs.Host.Returns as returns
 use Rattle.mpt_rules.specs.Outcome.{Happening}
-use Rattle.mpt_rules.specs.World.Counts.{how_many, one_if}
+use Rattle.mpt_rules.specs.World.Counts.{one_if}
 use Rattle.law_facts.specs.Words.{resets_address}
 use Rattle.law_flights.proofs.HostHolds.{in_table, slot_of-set}
 use Rattle.law_flights.proofs.Least.{IsLeast, least_is}

@@ -5,12 +5,7 @@ use Rattle.std.specs.FinMap as finmap
 use Rattle.std.specs.FinSet as finset
 use Rattle.std.specs.Ordering.{nat_cmp}
 use Rattle.std.proofs.lemmas.Bool.{eqb-true}
-use Rattle.smid_pool.specs.Pool.{Slot, Free, Open, Parked, all_free, slot_of}
-use Rattle.mpi_doorbell.specs.HostDoor.{HostDoor}
-use Rattle.mpi_doorbell.specs.HostSteps.{diagnostic_reset, unit_reset}
-use Rattle.mpi_doorbell.specs.declared.step.DoorStep.{DoorStep}
-use Rattle.mpi_doorbell.specs.declared.step.DoorStep.TheVariants as step
-use Rattle.mpt_messages.specs.declared.host_ask.HostAsk.TheVariants as ask
+use Rattle.smid_pool.specs.Pool.{Slot, Free, Open, Parked}
 use Rattle.mpt_wire.specs.Machine.State.{Machine, OpenRequest}
 use Rattle.mpt_wire.specs.Machine.Steps.{MayAnswer, after_abort_end}
 use Rattle.mpt_wire.specs.Machine.View.{Seen, seen_next}
@@ -18,30 +13,21 @@ use Rattle.mpt_wire.specs.Walks.Ahead.{next_own, state_ahead}
 use Rattle.mpt_wire.specs.Walks.Passes.{EachEntry}
 use Rattle.mpt_trace.specs.declared.entry.Entry.{Entry}
 use Rattle.mpt_trace.specs.declared.entry.Entry.TheVariants as entry
-use Rattle.mpt_trace.specs.declared.host_state.HostState.{HostState}
-use Rattle.mpt_trace.specs.declared.host_state.HostState.TheVariants as state
 use Rattle.mpt_trace.specs.declared.outcome.Outcome.{Outcome as Ending}
 use Rattle.mpt_trace.specs.declared.outcome.AbortOutcome.{AbortOutcome}
 use Rattle.mpt_trace.specs.declared.outcome.AbortOutcome.TheVariants as abort
 use Rattle.mpt_rules.specs.declared.request.Request.{Request}
 use Rattle.mpt_rules.specs.declared.request.Request.TheVariants as request
-use Rattle.mpt_rules.specs.declared.stage.Stage.{Stage}
-use Rattle.mpt_rules.specs.declared.stage.Stage.TheVariants as stage
-use Rattle.mpt_rules.specs.Host.Doorbell as door
-use Rattle.mpt_rules.specs.Host.Parts.{Cmd, Host}
+use Rattle.mpt_rules.specs.Host.Parts.{Host}
 use Rattle.mpt_rules.specs.Host.Resets as resets
-use Rattle.mpt_rules.specs.Host.Returns as returns
-use Rattle.mpt_rules.specs.Host.Values as values
-use Rattle.mpt_rules.specs.Outcome.{Happening}
-use Rattle.mpt_rules.specs.World.Counts.{how_many, one_if}
+use Rattle.mpt_rules.specs.World.Counts.{how_many}
 use Rattle.law_facts.specs.Words.{resets_address}
 use Rattle.law_moves.proofs.Counted.{how_many-nil}
 use Rattle.law_machine.proofs.Counted.{one_more}
 use Rattle.law_machine.proofs.Silent.{Passed}
 use Rattle.law_disks.proofs.Fits.{inserted_set, no_more, removed_is}
-use Rattle.law_disks.specs.Machine.{Numbers, Requests, is_known}
-use Rattle.law_numbers.proofs.Agree.{Aborts, Agree, Agrees, Cmds, Like, Num, agrees_like, alike, like_then}
-use Rattle.law_numbers.proofs.Calls.{asks_internal}
+use Rattle.law_disks.specs.Machine.{is_known}
+use Rattle.law_numbers.proofs.Agree.{Agrees, Num}
 
 -- ---- the state behind entries that nothing follows
 
@@ -153,9 +139,11 @@ told_ends : (k : Host) → EachEntry IsEnd (resets.reset_told k)
 told_ends k = is_end_map resets.reset_answer (λ n. tt) (finmap.keys k.cmds) _ (is_end_map resets.reset_abort (λ n. tt) (finmap.keys k.aborts) _ (is_end_targets k.pool))
 
 pub told_splits : (k : Host) → (told : List Entry) × (resets.reset_told k ≡ told ++ entry.ResetDone ∷ [])
-told_splits k = (Rattle.std.specs.Prelude.map resets.reset_answer (finmap.keys k.cmds) ++ (Rattle.std.specs.Prelude.map resets.reset_abort (finmap.keys k.aborts) ++ Rattle.std.specs.Prelude.filter_map resets.reset_target k.pool),
-    sym (Rattle.std.proofs.Common.append_assoc (Rattle.std.specs.Prelude.map resets.reset_answer (finmap.keys k.cmds)) (Rattle.std.specs.Prelude.map resets.reset_abort (finmap.keys k.aborts) ++ Rattle.std.specs.Prelude.filter_map resets.reset_target k.pool) (entry.ResetDone ∷ [])
-    ∙ ap (λ v. Rattle.std.specs.Prelude.map resets.reset_answer (finmap.keys k.cmds) ++ v) (Rattle.std.proofs.Common.append_assoc (Rattle.std.specs.Prelude.map resets.reset_abort (finmap.keys k.aborts)) (Rattle.std.specs.Prelude.filter_map resets.reset_target k.pool) (entry.ResetDone ∷ []))))
+told_splits k = (
+  Rattle.std.specs.Prelude.map resets.reset_answer (finmap.keys k.cmds) ++ (Rattle.std.specs.Prelude.map resets.reset_abort (finmap.keys k.aborts) ++ Rattle.std.specs.Prelude.filter_map resets.reset_target k.pool),
+  sym (Rattle.std.proofs.Common.append_assoc (Rattle.std.specs.Prelude.map resets.reset_answer (finmap.keys k.cmds)) (Rattle.std.specs.Prelude.map resets.reset_abort (finmap.keys k.aborts) ++ Rattle.std.specs.Prelude.filter_map resets.reset_target k.pool) (entry.ResetDone ∷ [])
+      ∙ ap (λ v. Rattle.std.specs.Prelude.map resets.reset_answer (finmap.keys k.cmds) ++ v) (Rattle.std.proofs.Common.append_assoc (Rattle.std.specs.Prelude.map resets.reset_abort (finmap.keys k.aborts)) (Rattle.std.specs.Prelude.filter_map resets.reset_target k.pool) (entry.ResetDone ∷ []))),
+)
 
 pub told_bare : (k : Host) (g : Seen) → Passed g (resets.reset_told k) → IsBare (behind g (resets.reset_told k)).machine
 told_bare k g p = let e = told_splits k in subst (λ u. IsBare (behind g u).machine) (sym e.1) (end_bare g e.0 (subst (Passed g) e.1 p))

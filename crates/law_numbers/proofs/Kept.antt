@@ -1,5 +1,5 @@
 -- Numbers and target resets are the host's, over every case.
-use Rattle.std.proofs.Common.{◌≡◌, ℕ, zero, suc, ◌+◌, ◌-◌, ◌≤◌, ◌<◌, ◌==◌, ◌&&◌, Bool, true, false, if◌then◌else◌, List, [], ◌∷◌, ◌++◌, length, set, Option, Some, None, is_some, refl, ap, sym, ◌∙◌, subst, arith}
+use Rattle.std.proofs.Common.{◌≡◌, ℕ, ◌-◌, ◌≤◌, ◌==◌, ◌&&◌, Bool, true, false, if◌then◌else◌, List, [], ◌∷◌, ◌++◌, length, set, Option, Some, None, is_some, refl, ap, sym, ◌∙◌, subst, arith}
 use Rattle.std.specs.FinMap as finmap
 use Rattle.std.specs.FinSet as finset
 use Rattle.scsi_disk.specs.Command.{fits}
@@ -18,7 +18,6 @@ use Rattle.mpt_wire.specs.Walks.Ahead.{next_own, state_ahead}
 use Rattle.mpt_wire.specs.Walks.Passes.{EachEntry}
 use Rattle.mpt_trace.specs.Command.{command_named}
 use Rattle.mpt_trace.specs.declared.command_form.CommandForm.{CommandForm}
-use Rattle.mpt_trace.specs.declared.choice.Choice.{Choice}
 use Rattle.mpt_trace.specs.declared.entry.Entry.{Entry}
 use Rattle.mpt_trace.specs.declared.entry.Entry.TheVariants as entry
 use Rattle.mpt_trace.specs.declared.host_state.HostState.{HostState}
@@ -42,10 +41,9 @@ use Rattle.mpt_rules.specs.Host.Parts.{Cmd, Host}
 use Rattle.mpt_rules.specs.Host.Replies as replies
 use Rattle.mpt_rules.specs.Host.Resets as resets
 use Rattle.mpt_rules.specs.Host.Returns.{after_sent}
-use Rattle.mpt_rules.specs.Host.Strange.{why_strange}
 use Rattle.mpt_rules.specs.Host.Takes.{hears_up}
 use Rattle.mpt_rules.specs.Law.{NothingIsStrange}
-use Rattle.mpt_rules.specs.Outcome.{Called, Happening}
+use Rattle.mpt_rules.specs.Outcome.{Happening}
 use Rattle.mpt_rules.specs.World.Cases.{Case, entries, happens}
 use Rattle.mpt_rules.specs.World.Counts.{how_many, one_if}
 use Rattle.mpt_rules.specs.World.Inputs.{by_option, by_result, host_told}
@@ -65,7 +63,7 @@ use Rattle.law_machine.proofs.Silent.{IsSilent, Passed}
 use Rattle.law_machine.proofs.Values.{mark_passes, value_passes}
 use Rattle.law_moves.proofs.Cases.{IsHosts}
 use Rattle.law_moves.proofs.CasesTold.{IsPlugWord, OwesTold, kept_told}
-use Rattle.law_moves.proofs.IocWords.{IsIocWord, back_words, works_words}
+use Rattle.law_moves.proofs.IocWords.{IsIocWord, works_words}
 use Rattle.law_numbers.proofs.Agree.{Agree, Agrees, IsCalm, Like, Num, agrees_like, alike, calm_all, from_facts, like_then, slot_count, slot_same, target_asked, taken, to_number, to_resets}
 use Rattle.law_numbers.proofs.Calls.{Behind, Calmly, answer, calmly, entry_taken, none_asked}
 use Rattle.law_numbers.proofs.Ends.{behind, behind_cons, behind_is, renewed_agrees}

@@ -1,8 +1,7 @@
 -- How many numbers and target resets are open: over the fields that are read.
-use Rattle.std.proofs.Common.{◌≡◌, ◌⊎◌, inl, inr, ℕ, zero, suc, ◌+◌, ◌-◌, ◌≤◌, ◌<◌, ◌==◌, cond, Bool, true, false, if◌then◌else◌, List, [], ◌∷◌, ◌++◌, length, get_or, set, take, drop, count_by, Option, Some, None, is_some, refl, ap, sym, ◌∙◌, subst, arith}
+use Rattle.std.proofs.Common.{◌≡◌, ◌⊎◌, inl, inr, ℕ, zero, suc, ◌+◌, ◌-◌, ◌≤◌, ◌<◌, Bool, true, false, if◌then◌else◌, List, [], ◌∷◌, ◌++◌, length, get_or, set, take, drop, count_by, Option, Some, None, refl, ap, sym, ◌∙◌, subst, arith}
 use Rattle.std.specs.FinMap as finmap
-use Rattle.smid_pool.specs.Pool.{Slot, Free, Open, Parked, is_open, slot_of, slots_in}
-use Rattle.smid_pool.specs.Class.{IsIn}
+use Rattle.smid_pool.specs.Pool.{Slot, Free, is_open, slot_of, slots_in}
 use Rattle.smid_pool.specs.declared.class.Class.TheVariants as class
 use Rattle.mpt_wire.specs.Machine.Calls.{call_of, is_call_answered, is_call_refused, refused_submit, refused_call}
 use Rattle.mpt_wire.specs.Machine.Causes as calls
@@ -22,7 +21,6 @@ use Rattle.mpt_trace.specs.declared.lane.LaneName.{LaneName}
 use Rattle.mpt_trace.specs.declared.outcome.AbortOutcome.{AbortOutcome}
 use Rattle.mpt_trace.specs.declared.outcome.AbortOutcome.TheVariants as abort
 use Rattle.mpt_rules.specs.declared.request.Request.{Request}
-use Rattle.mpt_rules.specs.declared.request.Request.TheVariants as request
 use Rattle.mpt_rules.specs.Host.Parts.{Host}
 use Rattle.mpt_rules.specs.World.Counts.{one_if}
 use Rattle.law_facts.specs.Disks.{is_target}

@@ -1,5 +1,5 @@
 -- As many numbers and target resets are open at the host, and it has the machine's mode, over every case.
-use Rattle.std.proofs.Common.{◌≡◌, ◌⊎◌, inl, inr, cond, map, filter_map, take, drop, count_by, ℕ, zero, suc, ◌+◌, ◌-◌, ◌≤◌, ◌<◌, ◌==◌, ◌&&◌, Bool, true, false, if◌then◌else◌, List, [], ◌∷◌, ◌++◌, length, set, Option, Some, None, is_some, refl, ap, sym, ◌∙◌, subst, arith}
+use Rattle.std.proofs.Common.{◌≡◌, inl, inr, cond, map, filter_map, take, drop, count_by, ℕ, zero, suc, ◌+◌, ◌-◌, ◌≤◌, ◌==◌, ◌&&◌, Bool, true, false, if◌then◌else◌, List, [], ◌∷◌, ◌++◌, length, Option, Some, None, is_some, refl, ap, sym, ◌∙◌, subst, arith}
 use Rattle.std.specs.FinMap as finmap
 use Rattle.std.specs.FinSet as finset
 use Rattle.scsi_disk.specs.Command.{fits}
@@ -19,7 +19,6 @@ use Rattle.mpt_wire.specs.Walks.Ahead.{next_own, state_ahead}
 use Rattle.mpt_wire.specs.Walks.Passes.{EachEntry}
 use Rattle.mpt_trace.specs.Command.{command_named}
 use Rattle.mpt_trace.specs.declared.command_form.CommandForm.{CommandForm}
-use Rattle.mpt_trace.specs.declared.choice.Choice.{Choice}
 use Rattle.mpt_trace.specs.declared.entry.Entry.{Entry}
 use Rattle.mpt_trace.specs.declared.entry.Entry.TheVariants as entry
 use Rattle.mpt_trace.specs.declared.host_state.HostState.{HostState}
@@ -43,10 +42,9 @@ use Rattle.mpt_rules.specs.Host.Parts.{Cmd, Host}
 use Rattle.mpt_rules.specs.Host.Replies as replies
 use Rattle.mpt_rules.specs.Host.Resets as resets
 use Rattle.mpt_rules.specs.Host.Returns.{after_sent}
-use Rattle.mpt_rules.specs.Host.Strange.{why_strange}
 use Rattle.mpt_rules.specs.Host.Takes.{hears_up}
 use Rattle.mpt_rules.specs.Law.{NothingIsStrange}
-use Rattle.mpt_rules.specs.Outcome.{Called, Happening}
+use Rattle.mpt_rules.specs.Outcome.{Happening}
 use Rattle.mpt_rules.specs.World.Cases.{Case, entries, happens}
 use Rattle.mpt_rules.specs.World.Counts.{how_many, one_if}
 use Rattle.mpt_rules.specs.World.Inputs.{by_option, by_result, host_told}
@@ -64,7 +62,7 @@ use Rattle.law_machine.proofs.Silent.{IsSilent, Passed}
 use Rattle.law_machine.proofs.Values.{mark_passes, value_passes}
 use Rattle.law_moves.proofs.Cases.{IsHosts}
 use Rattle.law_moves.proofs.CasesTold.{IsPlugWord, OwesTold, kept_told}
-use Rattle.law_moves.proofs.IocWords.{IsIocWord, back_words, works_words}
+use Rattle.law_moves.proofs.IocWords.{IsIocWord, works_words}
 use Rattle.law_disks.proofs.Takes.{take_leaves}
 use Rattle.law_facts.specs.Disks.{is_target}
 use Rattle.law_facts.specs.Flights.{RecordStands}
@@ -72,7 +70,7 @@ use Rattle.law_machine.proofs.Counted.{count-cons, one_more}
 use Rattle.law_moves.proofs.Counted.{how_many-nil}
 use Rattle.law_numbers.specs.Tallies.{SameTallies}
 use Rattle.law_numbers.proofs.Ends.{behind, behind_cons, behind_is, behind_nil, told_bare, told_splits}
-use Rattle.law_numbers.proofs.Tally.{Alike, Counts, IsStill, Tallies, alike, alike_then, kept_outside, moved_inside, still_all, taken_still, tallies_alike, write}
+use Rattle.law_numbers.proofs.Tally.{Alike, Counts, IsStill, Tallies, alike, kept_outside, moved_inside, still_all, taken_still, tallies_alike, write}
 use Rattle.law_numbers.proofs.TallyCalls.{Behind, Placed, answer, entry_taken, none_asked}
 use Rattle.law_numbers.proofs.TallyTurns.{Ended, Over, Quiet, begun, facts_begin, mark_ends, reset_asked, value_ends}
 
