@@ -22,7 +22,7 @@ use Rattle.law_facts.specs.Facts.{Facts}
 use Rattle.law_facts.specs.History.{History}
 use Rattle.law_facts.specs.Messages.{IsEvent, event_like}
 use Rattle.removal.specs.Handles.{IsHandle}
-use Rattle.law_standing.specs.Written.{EventIsWritten, FrameIsWritten, IsWritten, RepliesAreWritten}
+use Rattle.law_standing.specs.Written.{EventIsWritten, IsWritten, RepliesAreWritten}
 use Rattle.law_standing.proofs.Shown.{replies_stay_written}
 use Rattle.law_replies.specs.Events.{EventsTellChanges, TellsChange}
 

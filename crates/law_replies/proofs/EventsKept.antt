@@ -4,17 +4,10 @@ use Rattle.std.specs.Prelude.{All}
 use Rattle.std.specs.List.{filter, find, position}
 use Rattle.std.proofs.lemmas.List.Elements.{All-append, All-cons, All-get_or, All-head, All-nil, All-tail, All-filter}
 use Rattle.std.proofs.lemmas.List.Quantifiers.{position-Some}
-use Rattle.config_pages.specs.DevicePage0.{device_page0_layout, device_page0_values}
-use Rattle.config_pages.specs.ConfigReply.{config_reply_layout}
-use Rattle.mpi_layout.specs.Rows.{first_fault}
-use Rattle.mpi_rings.specs.declared.request_descriptor.PostKind.{PostKind}
 use Rattle.smid_pool.specs.Pool.{Slot, Free, Open, Parked}
 use Rattle.mpt_messages.specs.Function.{byte_of}
 use Rattle.mpt_messages.specs.IocFrames.{reply_frame}
-use Rattle.mpt_messages.specs.declared.ioc_reply.IocReply.{IocReply}
-use Rattle.mpt_wire.specs.Handles.Names.{is_device_page}
-use Rattle.mpt_wire.specs.Messages.Fields.{abort_task, controlled_handle_in, dev_handle_in, function_in, kind_in, operation_in, action_in, ext_page_type_in, flags_in, page_buffer_in, page_number_in, post_descriptor, smid_in, target_reset, task_mid_in, task_type_in}
-use Rattle.mpt_wire.specs.Messages.Standing.{IsDiskPage}
+use Rattle.mpt_wire.specs.Messages.Fields.{abort_task, controlled_handle_in, dev_handle_in, function_in, operation_in, action_in, ext_page_type_in, smid_in, target_reset, task_mid_in}
 use Rattle.mpt_rules.specs.declared.binding.Binding.{Binding}
 use Rattle.mpt_rules.specs.declared.binding.Waiting.{Waiting}
 use Rattle.mpt_rules.specs.declared.post.Post.{Post}
@@ -28,14 +21,12 @@ use Rattle.law_flights.proofs.Tables.{get_or-set_any}
 use Rattle.law_facts.specs.Facts.{Facts}
 use Rattle.law_facts.specs.History.{History}
 use Rattle.law_facts.specs.Limits.{BindingFits, WaitingFits, NoticeFits}
-use Rattle.law_facts.specs.Messages.{PostIs, PostIsRecord, AbortAt, CommandAt, HeldIs, HeldIsOf, IsTarget, RequestIs, IsEvent}
+use Rattle.law_facts.specs.Messages.{PostIs, PostIsRecord, AbortAt, CommandAt, HeldIs, HeldIsOf, IsTarget, RequestIs}
 use Rattle.law_facts.specs.Words.{slot}
 use Rattle.law_flights.proofs.WorkLeaves.{AbortEnds, AbortSends, Acks, Dropped, Enables, EndsPlainly, Notifies, PageEnds, PageGiven, Refuses, RemovalEnds, Removes, ResetEnds, ResetHolds, ResetSends, ScsiEnds, ScsiSends, Stops, Strays, TaskFails, Works, works_leaf}
-use Rattle.mpi_rings.specs.RequestDescriptor.{flags_of}
-use Rattle.law_flights.proofs.Descriptors.{kind_posted}
-use Rattle.law_messages.proofs.Agreeing.{all_more, not_both}
+use Rattle.law_messages.proofs.Agreeing.{all_more}
 use Rattle.law_messages.proofs.Known.{classed, inside}
-use Rattle.law_messages.proofs.PostsKept.{found_all, found_passes}
+use Rattle.law_messages.proofs.PostsKept.{found_all}
 use Rattle.mpi_doorbell.specs.DoorRegisters.{is_fault}
 use Rattle.scsi_disk.specs.declared.scsi_result.ScsiResult.{ScsiResult}
 use Rattle.scsi_disk.specs.declared.scsi_result.TheConstants.{GOOD}
@@ -56,7 +47,6 @@ use Rattle.law_replies.specs.Events.{EventsStand, IsEventOn}
 use Rattle.law_replies.proofs.Events.{event_is}
 use Rattle.removal.specs.Handles.{IsHandle}
 use Rattle.std.specs.FinSet as set_of
-use Rattle.mpi_rings.specs.declared.request_descriptor.PostKind.TheVariants as post
 use Rattle.mpt_messages.specs.declared.function.Function.TheVariants as function
 use Rattle.mpt_messages.specs.declared.ioc_reply.IocReply.TheVariants as reply
 use Rattle.mpt_rules.specs.declared.binding.Binding.TheVariants as binding

@@ -1,5 +1,5 @@
 -- What is known of the events that the controller tells.
-use Rattle.std.specs.Prelude.{◌≡◌, ℕ, zero, ◌⊎◌, All, List, Bool, true, false}
+use Rattle.std.specs.Prelude.{◌≡◌, ℕ, zero, ◌⊎◌, All, true, false}
 use Rattle.mpt_rules.specs.declared.said.Said.{Said}
 use Rattle.mpt_rules.specs.declared.said.Said.TheVariants as said
 use Rattle.mpt_rules.specs.Ioc.Replies.{outbox_of}
