@@ -1,11 +1,8 @@
 -- What has an item of a command's identifier has it alone.
 use Rattle.std.proofs.Common.{◌≡◌, ◌≢◌, ℕ, ◌+◌, ◌≤◌, ◌==◌, ◌⊎◌, inl, inr, Bool, true, false, List, [], ◌∷◌, ◌++◌, get_or, Option, Some, None, is_some, option_map, refl, ap, sym, ◌∙◌, subst, arith}
-use Rattle.std.specs.Prelude.{All}
 use Rattle.std.specs.FinMap as finmap
 use Rattle.std.specs.List.{sum_by}
-use Rattle.std.proofs.lemmas.List.Elements.{All-head}
-use Rattle.smid_pool.specs.Pool.{Free, Open, Parked, Slot, is_open}
-use Rattle.mpt_wire.specs.Paths.Commands.{Live}
+use Rattle.smid_pool.specs.Pool.{Free, Open, is_open}
 use Rattle.mpt_trace.specs.declared.item.Back.{Back}
 use Rattle.mpt_rules.specs.declared.at_fabric.AtFabric.{AtFabric}
 use Rattle.mpt_rules.specs.declared.at_fabric.AtFabric.TheVariants as at
@@ -13,22 +10,21 @@ use Rattle.mpt_rules.specs.declared.request.Request.{Request}
 use Rattle.mpt_rules.specs.declared.request.Request.TheVariants as request
 use Rattle.mpt_rules.specs.Host.Parts.{Cmd}
 use Rattle.mpt_rules.specs.Ioc.Replies.{outbox_of}
-use Rattle.mpt_rules.specs.Ioc.Tables.{is_held_as, request_at}
-use Rattle.mpt_rules.specs.World.Counts.{how_many, one_if, post_count, queued_count, reply_count}
+use Rattle.mpt_rules.specs.Ioc.Tables.{request_at}
+use Rattle.mpt_rules.specs.World.Counts.{one_if, post_count, queued_count, reply_count}
 use Rattle.mpt_rules.specs.World.FabricCounts.{gone_count, result_count, sent_task_count, task_count, terminated_count}
-use Rattle.mpt_rules.specs.World.Lines.{back_line, down_line, out_line}
 use Rattle.mpt_rules.specs.World.PlaceCounts.{replies_on, smid_count}
 use Rattle.mpt_rules.specs.World.State.{World, up_on}
 use Rattle.mpt_rules.proofs.Counts.{post_count-append, reply_count-nil}
 use Rattle.mpt_rules.proofs.FabricCounts.{gone_count-append, result_count-append, sent_task_count-append, terminated_count-append}
 use Rattle.law_facts.specs.Clock.{in_reset, is_live}
 use Rattle.law_facts.specs.Facts.{Facts}
-use Rattle.law_facts.specs.Flights.{Flights, RecordStands, abort_tokens, command_tokens, reset_tokens}
+use Rattle.law_facts.specs.Flights.{Flights, RecordStands, command_tokens}
 use Rattle.law_facts.specs.History.{History}
 use Rattle.law_facts.specs.Words.{is_command, slot}
 use Rattle.law_lights.proofs.Ones.{sum_at}
 use Rattle.law_flights.proofs.HostHolds.{in_table}
-use Rattle.law_messages.proofs.Leads.{Accepts, Away, Ends, Follow, Goes, Leads}
+use Rattle.law_messages.proofs.Leads.{Follow}
 
 -- on the lane back
 abbrev pub on_back : ℕ → List Back → ℕ

@@ -1,5 +1,5 @@
 -- What each entry asks of a command's path, where it names its identifier, and where it doesn't.
-use Rattle.std.proofs.Common.{◌≡◌, ℕ, ◌≤◌, ◌==◌, Bool, true, false, if◌then◌else◌, List, [], ◌∷◌, ◌++◌, map, Option, Some, None, refl, ap, sym, ◌∙◌, subst}
+use Rattle.std.proofs.Common.{◌≡◌, ℕ, ◌==◌, Bool, true, false, if◌then◌else◌, List, [], ◌∷◌, Option, Some, None, refl, ap, sym, subst}
 use Rattle.std.specs.Prelude.{MatchOption}
 use Rattle.mpt_trace.specs.declared.entry.Entry.{Entry}
 use Rattle.mpt_trace.specs.declared.entry.Entry.TheVariants as entry
@@ -17,7 +17,7 @@ use Rattle.mpt_wire.specs.Paths.Stages.{MarkMayFollow, MayFollow, PathStage, Acc
 use Rattle.mpt_wire.specs.Paths.Table.{Answers, PathMark, PutsReply, RunsAt, TakesAbort}
 use Rattle.mpt_wire.specs.Walks.Passes.{EachEntry, Passes}
 use Rattle.law_facts.specs.History.{History}
-use Rattle.law_facts.specs.Paths.{MayReply, stage_of}
+use Rattle.law_facts.specs.Paths.{MayReply}
 use Rattle.law_paths.proofs.Entries.{equal, names, of_item, turned}
 
 unmarked : (b : Bool) (m : PathMark) → b ≡ false → mark_if b m ≡ None

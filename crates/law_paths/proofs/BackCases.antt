@@ -1,9 +1,9 @@
 -- Where what the fabric tells the controller leaves its command.
-use Rattle.std.proofs.Common.{◌≡◌, ℕ, zero, suc, ◌+◌, ◌^◌, ◌<◌, ◌≤◌, ◌==◌, ◌&&◌, ◌||◌, nat_lt, not, Bool, true, false, if◌then◌else◌, List, [], ◌∷◌, ◌++◌, length, Option, Some, None, refl, ap, sym, ◌∙◌, subst, arith}
+use Rattle.std.proofs.Common.{◌≡◌, ℕ, suc, ◌+◌, ◌^◌, ◌<◌, ◌≤◌, ◌==◌, ◌&&◌, ◌||◌, nat_lt, not, Bool, true, false, if◌then◌else◌, List, [], ◌∷◌, ◌++◌, length, Option, Some, None, refl, ap, sym, ◌∙◌, subst, arith}
 use Rattle.std.specs.Prelude.{All}
 use Rattle.std.specs.FinMap as finmap
-use Rattle.std.specs.List.{filter, position}
-use Rattle.std.proofs.lemmas.List.Elements.{All-cons, All-head, All-nil, All-tail}
+use Rattle.std.specs.List.{position}
+use Rattle.std.proofs.lemmas.List.Elements.{All-head, All-tail}
 use Rattle.scsi_disk.specs.Command.{fits}
 use Rattle.scsi_disk.specs.declared.command.Command.{Command}
 use Rattle.scsi_disk.specs.declared.scsi_result.ScsiResult.{ScsiResult}
@@ -45,7 +45,6 @@ use Rattle.mpt_rules.specs.Ioc.Parts.{Ioc}
 use Rattle.mpt_rules.specs.Ioc.Replies as say
 use Rattle.mpt_rules.specs.Ioc.Tables as table
 use Rattle.mpt_rules.specs.Ioc.Takes as adapter
-use Rattle.mpt_rules.specs.Ioc.Tasks as tasks
 use Rattle.mpt_rules.specs.World.Counts.{one_if}
 use Rattle.mpt_rules.specs.World.State.{World}
 use Rattle.law_facts.specs.Facts.{Facts}
@@ -61,14 +60,14 @@ use Rattle.law_messages.proofs.Known.{inside}
 use Rattle.law_messages.proofs.PostsKept.{live_is_open}
 use Rattle.law_messages.proofs.TameTold.{back_tame}
 use Rattle.law_standing.specs.Written.{OutcomesFit}
-use Rattle.law_paths.specs.Staged.{At, OutAt, PostAt, Staged}
+use Rattle.law_paths.specs.Staged.{OutAt, PostAt, Staged}
 use Rattle.law_paths.specs.Tags.{HasTag, TagsFit}
 use Rattle.law_paths.proofs.Alone.{alone, on_back, spots}
 use Rattle.law_paths.proofs.Entries.{IsQuiet, Silent, first_leads, same, silent}
 use Rattle.law_paths.proofs.FabricCases.{begin, by_name, leads_to, on_back-cons, one_back, quietly, tame_out}
-use Rattle.law_paths.proofs.Giving.{Gives, GivesBy, binds_to, changes, one, releases}
+use Rattle.law_paths.proofs.Giving.{Gives, binds_to, changes, one, releases}
 use Rattle.law_paths.proofs.IocCases.{ended_says, no_events, no_orders, told_quiet}
-use Rattle.law_paths.proofs.Moves.{asked_is, is_asked}
+use Rattle.law_paths.proofs.Moves.{asked_is}
 use Rattle.law_paths.proofs.PostKinds.{none_high}
 use Rattle.law_paths.proofs.TagsKept.{lane_tags}
 
@@ -311,8 +310,8 @@ module _ (w : World) (h : History) (f : Facts w h) (tags : TagsFit w) (fit : Out
     into z a b c =
         let g = took (record { said = z.said; out = z.sending }) a b c in
         let q =
-            queued_back (PostAt V K AtController) w.ioc x
-            (all_same (λ (p : Rattle.mpt_rules.specs.declared.post.Post.Post). is_command_asked (slot w.host (Rattle.mpt_wire.specs.Messages.Fields.smid_in p.descriptor)) ≡ false) (PostAt V K AtController) (λ p n c. not_both (is_command_asked (slot w.host (Rattle.mpt_wire.specs.Messages.Fields.smid_in p.descriptor))) n c) w.ioc.high highs_none, z.normal) in
+        queued_back (PostAt V K AtController) w.ioc x
+        (all_same (λ (p : Rattle.mpt_rules.specs.declared.post.Post.Post). is_command_asked (slot w.host (Rattle.mpt_wire.specs.Messages.Fields.smid_in p.descriptor)) ≡ false) (PostAt V K AtController) (λ p n c. not_both (is_command_asked (slot w.host (Rattle.mpt_wire.specs.Messages.Fields.smid_in p.descriptor))) n c) w.ioc.high highs_none, z.normal) in
         record { out = z.out; down = z.down; normal = q.1; sending = g.out; sent = z.sent; tasks = z.tasks; made = z.made; back = z.back; said = g.said; up = z.up }
 
     plainly : ((s : ℕ) → Silent s T) → Staged V K (record w { back = rest })

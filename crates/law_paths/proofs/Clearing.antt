@@ -1,8 +1,7 @@
 -- Where an identifier has no place, no item names it.
-use Rattle.std.proofs.Common.{◌≡◌, ℕ, ◌+◌, ◌≤◌, ◌==◌, Bool, true, false, List, [], ◌∷◌, map, Option, Some, None, refl, ap, sym, ◌∙◌, subst, arith}
+use Rattle.std.proofs.Common.{◌≡◌, ℕ, ◌==◌, Bool, true, false, List, [], ◌∷◌, map, Some, None, refl, arith}
 use Rattle.std.specs.Prelude.{All}
-use Rattle.std.specs.List.{sum_by}
-use Rattle.std.proofs.lemmas.List.Elements.{All-cons, All-head, All-nil, All-tail}
+use Rattle.std.proofs.lemmas.List.Elements.{All-cons, All-nil}
 use Rattle.mpt_trace.specs.declared.item.Back.{Back}
 use Rattle.mpt_trace.specs.declared.item.Back.TheVariants as back
 use Rattle.mpt_trace.specs.declared.item.Down.{Down}
@@ -28,7 +27,7 @@ use Rattle.mpt_rules.specs.World.PlaceCounts.{replies_on}
 use Rattle.mpt_rules.specs.World.State.{World, up_on}
 use Rattle.mpt_rules.proofs.Counts.{reply_count-cons, reply_count-nil}
 use Rattle.law_lights.proofs.Ones.{sum_at}
-use Rattle.law_moves.proofs.Counted.{how_many-cons, how_many-nil}
+use Rattle.law_moves.proofs.Counted.{how_many-cons}
 use Rattle.law_messages.proofs.Agreeing.{all_same}
 use Rattle.law_asked.proofs.Lists.{all_both, all_each}
 use Rattle.law_paths.proofs.Alone.{on_back, spots}

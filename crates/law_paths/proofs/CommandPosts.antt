@@ -1,5 +1,5 @@
 -- What the controller reads of a command's post: it is no message that it refuses, and its handle is bound.
-use Rattle.std.proofs.Common.{◌≡◌, ℕ, ◌+◌, ◌-◌, ◌%◌, ◌*◌, ◌/◌, ◌^◌, ◌<◌, ◌≤◌, ◌==◌, ◌&&◌, ◌||◌, nat_lt, not, if◌then◌else◌, Bool, true, false, List, [], ◌∷◌, ◌++◌, get_or, length, slice_index, Option, Some, None, option_map, refl, ap, sym, ◌∙◌, subst, arith, mod-lt}
+use Rattle.std.proofs.Common.{◌≡◌, ℕ, ◌+◌, ◌-◌, ◌%◌, ◌*◌, ◌/◌, ◌^◌, ◌<◌, ◌≤◌, ◌==◌, ◌||◌, nat_lt, not, if◌then◌else◌, Bool, true, false, List, [], ◌∷◌, get_or, length, slice_index, Option, Some, None, option_map, refl, ap, sym, ◌∙◌, subst, arith, mod-lt}
 use Rattle.std.specs.FinMap as finmap
 use Rattle.smid_pool.specs.Pool.{Open}
 use Rattle.hex.specs.Hex.{IsBytes}
@@ -10,7 +10,6 @@ use Rattle.mpt_messages.specs.Fault.{message_fault}
 use Rattle.mpt_messages.specs.Function.{function_of}
 use Rattle.mpt_messages.specs.HostFrames.{direction, element_flags, host_message, scsi_io_asked}
 use Rattle.mpt_messages.specs.Refusal.{request_refusal, request_refusal_as}
-use Rattle.mpt_messages.specs.declared.fault.MsgFault.{MsgFault}
 use Rattle.mpt_messages.specs.declared.fault.MsgFault.TheVariants as refusal
 use Rattle.mpt_messages.specs.declared.function.Function.TheVariants as function
 use Rattle.mpt_messages.specs.declared.function.Kind.TheVariants as kind
@@ -25,7 +24,6 @@ use Rattle.mpi_doorbell.specs.declared.state.IocState.TheVariants as ioc_state
 use Rattle.mpt_wire.specs.Handles.Bindings.{Plug}
 use Rattle.mpt_wire.specs.Machine.State.{OpenRequest}
 use Rattle.mpt_wire.specs.Messages.Fields.{data_length_in, dev_handle_in, direction_in, element_flags_in, element_length_in, handle_in, post_descriptor, smid_in}
-use Rattle.mpt_rules.specs.declared.binding.Binding.{Binding}
 use Rattle.mpt_rules.specs.declared.binding.Binding.TheVariants as binding
 use Rattle.mpt_rules.specs.declared.post.Post.{Post}
 use Rattle.mpt_rules.specs.declared.request.Request.TheVariants as request
@@ -46,10 +44,9 @@ use Rattle.law_facts.specs.History.{History}
 use Rattle.law_facts.specs.Messages.{CommandPost, PostIs, PostIsRecord}
 use Rattle.law_facts.specs.Words.{is_bare, slot}
 use Rattle.law_asked.proofs.ReadBack.{few, fit, handle_read, length_read}
-use Rattle.law_messages.proofs.Agreeing.{not_both, same}
+use Rattle.law_messages.proofs.Agreeing.{same}
 use Rattle.law_messages.proofs.Known.{classed, command_of}
-use Rattle.law_messages.proofs.PostsKept.{open_request}
-use Rattle.law_paths.specs.Plain.{CommandsArePlain, IsPlain}
+use Rattle.law_paths.specs.Plain.{CommandsArePlain}
 use Rattle.law_paths.proofs.IocCases.{CommandReads}
 
 module _ (c : Command) (f : fits c ≡ true) (b : IsBytes c.cdb) (s handle : ℕ) (low : 1 ≤ s) (most : s ≤ 256) (small : handle < 2 ^ 16) (unit : c.lun ≡ 0) where

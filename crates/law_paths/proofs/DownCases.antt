@@ -1,27 +1,21 @@
 -- Where a post that the host puts, and one that the controller takes, leaves its command.
-use Rattle.std.proofs.Common.{◌≡◌, ℕ, ◌+◌, ◌≤◌, ◌==◌, ◌&&◌, Bool, true, false, if◌then◌else◌, List, [], ◌∷◌, ◌++◌, Option, Some, None, refl, ap, sym, ◌∙◌, subst, arith}
+use Rattle.std.proofs.Common.{◌≡◌, ℕ, ◌+◌, ◌≤◌, ◌==◌, ◌&&◌, Bool, true, false, if◌then◌else◌, List, [], ◌∷◌, ◌++◌, refl, ap, sym, ◌∙◌, subst, arith}
 use Rattle.std.specs.Prelude.{All}
-use Rattle.std.proofs.lemmas.List.Elements.{All-head, All-nil, All-tail}
-use Rattle.smid_pool.specs.Pool.{Open}
+use Rattle.std.proofs.lemmas.List.Elements.{All-head, All-tail}
 use Rattle.mpi_doorbell.specs.DoorRegisters.{is_fault}
-use Rattle.mpi_rings.specs.declared.request_descriptor.PostKind.{PostKind}
-use Rattle.mpi_rings.specs.declared.request_descriptor.PostKind.TheVariants as post
-use Rattle.mpt_trace.specs.declared.entry.Entry.{Entry}
 use Rattle.mpt_trace.specs.declared.entry.Entry.TheVariants as entry
 use Rattle.mpt_trace.specs.declared.item.Down.{Down}
 use Rattle.mpt_trace.specs.declared.item.Down.TheVariants as down
 use Rattle.mpt_trace.specs.declared.item.Item.TheVariants as item
 use Rattle.mpt_trace.specs.declared.lane.LaneName.TheVariants as lane
 use Rattle.mpt_wire.specs.Messages.Fields.{function_in, kind_in, smid_in, task_mid_in, task_type_in}
-use Rattle.mpt_wire.specs.Messages.Naming.{is_abort_of, is_high_priority, names_command}
-use Rattle.mpt_wire.specs.Paths.Commands.{live_mark, mark_if, path_mark_of}
-use Rattle.mpt_wire.specs.Paths.Stages.{Accepted, AtController, PathStage, Posted, stage_if}
+use Rattle.mpt_wire.specs.Messages.Naming.{is_high_priority, names_command}
+use Rattle.mpt_wire.specs.Paths.Commands.{live_mark, mark_if}
+use Rattle.mpt_wire.specs.Paths.Stages.{Accepted, AtController, Posted, stage_if}
 use Rattle.mpt_wire.specs.Paths.Table.{PutsPost, TakesAbort, TakesPost}
 use Rattle.mpt_wire.specs.Walks.Passes.{EachEntry}
 use Rattle.mpt_rules.specs.declared.post.Post.{Post}
-use Rattle.mpt_rules.specs.declared.request.Request.TheVariants as request
 use Rattle.mpt_rules.specs.Host.Returns.{after_sent}
-use Rattle.mpt_rules.specs.Ioc.Parts.{Ioc}
 use Rattle.mpt_rules.specs.Ioc.Takes as adapter
 use Rattle.mpt_rules.specs.World.Counts.{one_if, post_count}
 use Rattle.mpt_rules.specs.World.State.{World}
@@ -36,7 +30,7 @@ use Rattle.law_messages.proofs.Agreeing.{all_more, all_same, not_both}
 use Rattle.law_messages.proofs.IocQueues.{queued_down}
 use Rattle.law_messages.proofs.TameTold.{down_tame}
 use Rattle.law_moves.proofs.IocTakes as leaf
-use Rattle.law_paths.specs.Staged.{At, DownAt, OutAt, PostAt, Staged}
+use Rattle.law_paths.specs.Staged.{DownAt, OutAt, PostAt, Staged}
 use Rattle.law_paths.specs.Tags.{TagsFit}
 use Rattle.law_paths.proofs.Alone.{alone, low, spots}
 use Rattle.law_paths.proofs.Entries.{IsQuiet, Silent, equal, first_leads, is_named, not_named, same, silent}
@@ -127,11 +121,11 @@ module _ (w : World) (h : History) (f : Facts w h) (tags : TagsFit w) where
     took : ((d : ℕ) (g p : List ℕ) → x ≡ down.Post d g p → PostAt TookTo TookAfter AtController (record { descriptor = d; frame = g; payload = p })) → Staged TookTo TookAfter (record w { down = rest }) → Staged TookTo TookAfter TookTo
     took b z =
         let g =
-            takes (SaidStage TookTo TookAfter) (OutAt TookTo TookAfter AtController) (no_events TookTo TookAfter) (no_orders TookTo TookAfter) (λ n. tt) (λ n. tt) w.ioc x (adapter.takes_down w.ioc x).part
-            (leaf.takes w.ioc f.doorbell.sound.waits f.clock.phase_table.whole x) unfaulted (record { said = z.said; out = z.sending }) in
+        takes (SaidStage TookTo TookAfter) (OutAt TookTo TookAfter AtController) (no_events TookTo TookAfter) (no_orders TookTo TookAfter) (λ n. tt) (λ n. tt) w.ioc x (adapter.takes_down w.ioc x).part
+        (leaf.takes w.ioc f.doorbell.sound.waits f.clock.phase_table.whole x) unfaulted (record { said = z.said; out = z.sending }) in
         let q =
-            queued_down (PostAt TookTo TookAfter AtController) w.ioc x f.doorbell.sound.waits f.clock.phase_table.whole unfaulted b
-            (all_same (λ (p : Post). is_command_asked (slot w.host (smid_in p.descriptor)) ≡ false) (PostAt TookTo TookAfter AtController) (λ p n c. not_both (is_command_asked (slot w.host (smid_in p.descriptor))) n c) w.ioc.high highs_none, z.normal) in
+        queued_down (PostAt TookTo TookAfter AtController) w.ioc x f.doorbell.sound.waits f.clock.phase_table.whole unfaulted b
+        (all_same (λ (p : Post). is_command_asked (slot w.host (smid_in p.descriptor)) ≡ false) (PostAt TookTo TookAfter AtController) (λ p n c. not_both (is_command_asked (slot w.host (smid_in p.descriptor))) n c) w.ioc.high highs_none, z.normal) in
         record { out = z.out; down = z.down; normal = q.1; sending = g.out; sent = z.sent; tasks = z.tasks; made = z.made; back = z.back; said = g.said; up = z.up }
 
     not_posted : is_post x ≡ false → (d : ℕ) (g p : List ℕ) → x ≡ down.Post d g p → PostAt TookTo TookAfter AtController (record { descriptor = d; frame = g; payload = p })

@@ -1,5 +1,5 @@
 -- What entries make of how far a command is on its path: only those that name its identifier lead it on.
-use Rattle.std.proofs.Common.{◌≡◌, ℕ, ◌≤◌, ◌==◌, ◌&&◌, nat_le, Bool, true, false, if◌then◌else◌, List, [], ◌∷◌, Option, Some, None, refl, ap, sym, ◌∙◌, subst, arith}
+use Rattle.std.proofs.Common.{◌≡◌, ℕ, ◌≤◌, ◌==◌, ◌&&◌, nat_le, Bool, true, false, if◌then◌else◌, List, [], ◌∷◌, Option, Some, None, refl, ap, ◌∙◌, arith}
 use Rattle.mpi_rings.specs.declared.request_descriptor.PostKind.TheVariants as post
 use Rattle.mpt_trace.specs.declared.entry.Entry.{Entry}
 use Rattle.mpt_trace.specs.declared.entry.Entry.TheVariants as entry
@@ -9,11 +9,10 @@ use Rattle.mpt_trace.specs.declared.item.Item.{Item}
 use Rattle.mpt_trace.specs.declared.item.Item.TheVariants as item
 use Rattle.mpt_trace.specs.declared.item.Out.TheVariants as out
 use Rattle.mpt_trace.specs.declared.item.Up.TheVariants as up
-use Rattle.mpt_trace.specs.declared.lane.LaneName.{LaneName}
 use Rattle.mpt_trace.specs.declared.outcome.Outcome.{Outcome}
 use Rattle.mpt_wire.specs.Messages.Fields.{smid_in}
 use Rattle.mpt_wire.specs.Messages.Naming.{is_abort_of, names_command}
-use Rattle.mpt_wire.specs.Paths.Commands.{Known, Live, answer_mark, live_mark, mark_if, path_mark_of, put_mark, take_mark}
+use Rattle.mpt_wire.specs.Paths.Commands.{Live, answer_mark, live_mark, mark_if, path_mark_of, put_mark, take_mark}
 use Rattle.mpt_wire.specs.Paths.Stages.{PathStage, Walk, stage_after, stage_if, stopped_if, walk_next}
 use Rattle.mpt_wire.specs.Paths.Table.{PathMark, Answers, TakesAbort}
 use Rattle.mpt_wire.specs.Queues.Identifiers.{first_smid, last_smid}

@@ -1,7 +1,7 @@
 -- Where the fabric's cases, and the items that are put between it and the controller, leave commands.
-use Rattle.std.proofs.Common.{◌≡◌, ℕ, zero, suc, ◌+◌, ◌≤◌, ◌==◌, ◌&&◌, ◌||◌, not, Bool, true, false, if◌then◌else◌, List, [], ◌∷◌, ◌++◌, map, Option, Some, None, option_map, refl, ap, sym, ◌∙◌, subst, arith}
+use Rattle.std.proofs.Common.{◌≡◌, ℕ, ◌+◌, ◌≤◌, ◌==◌, ◌||◌, not, Bool, true, false, if◌then◌else◌, List, [], ◌∷◌, ◌++◌, map, Option, Some, None, option_map, refl, ap, sym, ◌∙◌, subst, arith}
 use Rattle.std.specs.Prelude.{All, filter_map}
-use Rattle.std.specs.List.{cons_option, filter, find, list_any, sum_by}
+use Rattle.std.specs.List.{cons_option, filter, find, list_any}
 use Rattle.std.proofs.lemmas.List.Elements.{All-append, All-cons, All-filter, All-head, All-nil, All-tail}
 use Rattle.scsi_disk.specs.declared.command.Command.{Command}
 use Rattle.scsi_disk.specs.declared.scsi_result.ScsiResult.{ScsiResult}
@@ -16,7 +16,7 @@ use Rattle.mpt_trace.specs.declared.item.Out.{Out}
 use Rattle.mpt_trace.specs.declared.item.Out.TheVariants as out
 use Rattle.mpt_trace.specs.declared.lane.LaneName.TheVariants as lane
 use Rattle.mpt_wire.specs.Paths.Commands.{mark_if}
-use Rattle.mpt_wire.specs.Paths.Stages.{PathStage, AtController, AtDisk, HasRun, Sent, SaysGone, SaysResult, SaysTerminated, stage_after, stage_if}
+use Rattle.mpt_wire.specs.Paths.Stages.{PathStage, AtController, AtDisk, HasRun, Sent, stage_after, stage_if}
 use Rattle.mpt_wire.specs.Paths.Table.{PathMark, PutsGone, PutsResult, PutsTask, PutsTerminated, RunsAt, TakesTask}
 use Rattle.mpt_wire.specs.Walks.Passes.{EachEntry}
 use Rattle.mpt_rules.specs.declared.request.Request.TheVariants as request
@@ -27,27 +27,26 @@ use Rattle.mpt_rules.specs.Fabric.Parts.{Fabric, FabricDisk, Place}
 use Rattle.mpt_rules.specs.Fabric.Tasks as tasks
 use Rattle.mpt_rules.specs.Fabric.Tasks.{has_tag, runs_task}
 use Rattle.mpt_rules.specs.World.Counts.{how_many, one_if}
-use Rattle.mpt_rules.specs.World.FabricCounts.{gone_count, is_gone_of, is_result_of, is_termination_of, result_count, sent_task_count, task_count, terminated_count}
+use Rattle.mpt_rules.specs.World.FabricCounts.{is_gone_of, is_result_of, is_termination_of, sent_task_count, task_count}
 use Rattle.mpt_rules.specs.World.State.{World}
 use Rattle.mpt_rules.proofs.FabricCounts.{gone_count-cons, result_count-cons, sent_task_count-cons, terminated_count-cons}
 use Rattle.law_facts.specs.Facts.{Facts}
 use Rattle.law_facts.specs.History.{History, history_after}
-use Rattle.law_facts.specs.Messages.{BackIs, HasOutcome, IsLiveTask, OutIs}
+use Rattle.law_facts.specs.Messages.{BackIs, HasOutcome, OutIs}
 use Rattle.law_facts.specs.Paths.{BackStage, stage_of}
-use Rattle.law_facts.specs.Words.{slot}
 use Rattle.law_moves.proofs.CasesTold.{IsPlugWord}
 use Rattle.law_moves.proofs.Counted.{how_many-cons, how_many-nil}
-use Rattle.law_messages.proofs.Agreeing.{all_first, all_last, all_more, all_one}
+use Rattle.law_messages.proofs.Agreeing.{all_last, all_more, all_one}
 use Rattle.law_messages.proofs.Known.{inside}
 use Rattle.law_messages.proofs.PostsKept.{found_counts, found_passes, live_is_open, run_outcomes}
 use Rattle.law_messages.proofs.Requests.{IsTame, tame_outcome}
 use Rattle.law_messages.proofs.TameTold.{plugs_tame}
 use Rattle.mpt_wire.specs.Paths.Commands.{Live}
-use Rattle.law_paths.specs.Staged.{At, DownAt, MadeAt, OutAt, PostAt, Staged, TaskAt}
+use Rattle.law_paths.specs.Staged.{At, MadeAt, OutAt, Staged, TaskAt}
 use Rattle.law_paths.specs.Tags.{HasTag, TagsFit}
 use Rattle.law_paths.proofs.Alone.{alone, on_back, spots}
 use Rattle.law_paths.proofs.Clearing.{Anyone, Other, clear_all, clear_of}
-use Rattle.law_paths.proofs.Entries.{IsQuiet, Silent, equal, first_leads, mark_stays, same, silent, stage_stays, turned}
+use Rattle.law_paths.proofs.Entries.{IsQuiet, Silent, equal, first_leads, mark_stays, same, silent, stage_stays}
 use Rattle.law_paths.proofs.Moves.{Kept, moved}
 use Rattle.law_paths.proofs.Staging.{staged}
 use Rattle.law_paths.proofs.TagsKept.{first_notice, lane_tags, live_within, made_tags}

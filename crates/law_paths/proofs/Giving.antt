@@ -5,19 +5,15 @@ use Rattle.std.specs.List.{filter, find}
 use Rattle.law_flights.proofs.Tables.{get_or-set_any}
 use Rattle.std.proofs.lemmas.List.Elements.{All-append, All-cons, All-filter, All-head, All-nil, All-tail}
 use Rattle.mpi_doorbell.specs.DoorRegisters.{is_fault}
-use Rattle.mpi_rings.specs.declared.request_descriptor.PostKind.{PostKind}
 use Rattle.mpi_rings.specs.declared.request_descriptor.PostKind.TheVariants as post
 use Rattle.mpt_messages.specs.Refusal.{request_refusal}
 use Rattle.mpt_messages.specs.declared.fault.MsgFault.{MsgFault}
 use Rattle.mpt_messages.specs.declared.ioc_reply.IocReply.{IocReply}
 use Rattle.mpt_wire.specs.Messages.Fields.{dev_handle_in, kind_in, smid_in, task_mid_in}
-use Rattle.mpt_trace.specs.declared.item.Back.{Back}
 use Rattle.mpt_trace.specs.declared.item.Down.{Down}
 use Rattle.mpt_trace.specs.declared.item.Out.{Out}
 use Rattle.mpt_trace.specs.declared.item.Out.TheVariants as out
 use Rattle.scsi_disk.specs.declared.command.Command.{Command}
-use Rattle.mpt_rules.specs.declared.at_fabric.AtFabric.{AtFabric}
-use Rattle.mpt_rules.specs.declared.at_fabric.AtFabric.TheVariants as at
 use Rattle.mpt_rules.specs.declared.at_fabric.HeldReset.{HeldReset}
 use Rattle.mpt_rules.specs.declared.binding.Binding.TheVariants as binding
 use Rattle.mpt_rules.specs.declared.binding.Waiting.{Waiting}

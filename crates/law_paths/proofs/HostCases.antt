@@ -1,12 +1,12 @@
 -- Where the host's calls leave commands.
-use Rattle.std.proofs.Common.{◌≡◌, ◌≢◌, ℕ, zero, suc, ◌+◌, ◌-◌, ◌%◌, ◌≤◌, ◌<◌, ◌==◌, ◌&&◌, not, cond, nat_lt, Bool, true, false, if◌then◌else◌, List, [], ◌∷◌, ◌++◌, get_or, length, replicate, set, slice_set, mod-lt, map, Option, Some, None, refl, ap, sym, ◌∙◌, subst, arith}
+use Rattle.std.proofs.Common.{◌≡◌, ℕ, zero, suc, ◌+◌, ◌-◌, ◌%◌, ◌≤◌, ◌<◌, ◌==◌, not, cond, nat_lt, Bool, true, false, if◌then◌else◌, List, [], ◌∷◌, ◌++◌, get_or, length, replicate, set, slice_set, mod-lt, map, Option, Some, None, refl, ap, sym, ◌∙◌, subst, arith}
 use Rattle.std.specs.Prelude.{All}
 use Rattle.std.specs.FinMap as finmap
 use Rattle.std.specs.FinSet as finset
 use Rattle.std.specs.Ordering.{nat_cmp}
 use Rattle.std.specs.List.{sum_by}
 use Rattle.std.proofs.lemmas.List.{get_or_past}
-use Rattle.std.proofs.lemmas.List.Elements.{All-append, All-head, All-nil, All-tail}
+use Rattle.std.proofs.lemmas.List.Elements.{All-tail}
 use Rattle.std.proofs.lemmas.List.Sums.{sum_by-set}
 use Rattle.removal.specs.Handles.{ready_handle}
 use Rattle.scsi_disk.specs.Command.{fits}
@@ -26,10 +26,9 @@ use Rattle.mpt_trace.specs.declared.item.Up.{Up}
 use Rattle.mpt_trace.specs.declared.item.Up.TheVariants as up
 use Rattle.mpt_trace.specs.declared.refusal.RefusedCall.TheVariants as call
 use Rattle.mpt_wire.specs.Machine.Causes.{is_resetting, is_up}
-use Rattle.mpt_wire.specs.Machine.View.{Seen}
 use Rattle.mpt_wire.specs.Messages.Fields.{smid_in}
 use Rattle.mpt_wire.specs.Messages.Naming.{names_command}
-use Rattle.mpt_wire.specs.Paths.Stages.{Accepted, PathStage, Walk, stage_if, walk_next}
+use Rattle.mpt_wire.specs.Paths.Stages.{Accepted, Walk, stage_if, walk_next}
 use Rattle.mpt_wire.specs.Walks.Passes.{EachEntry}
 use Rattle.mpt_rules.specs.declared.request.Request.{Request}
 use Rattle.mpt_rules.specs.declared.request.Request.TheVariants as request
@@ -38,23 +37,21 @@ use Rattle.mpt_rules.specs.Host.Parts.{Cmd, Host, host_queue_count}
 use Rattle.mpt_rules.specs.Host.Replies as replies
 use Rattle.mpt_rules.specs.Host.Resets as resets
 use Rattle.mpt_rules.specs.Host.Takes.{hears_up}
-use Rattle.mpt_rules.specs.Law.{NothingIsStrange}
 use Rattle.mpt_rules.specs.World.Counts.{how_many, one_if, post_count, reply_count}
-use Rattle.mpt_rules.specs.World.Inputs.{by_option, by_result, host_told}
+use Rattle.mpt_rules.specs.World.Inputs.{by_result, host_told}
 use Rattle.mpt_rules.specs.World.Lines.{said_of}
 use Rattle.mpt_rules.specs.World.Places.{is_posted_as}
-use Rattle.mpt_rules.specs.World.PlaceCounts.{replies_on, smid_count}
+use Rattle.mpt_rules.specs.World.PlaceCounts.{replies_on}
 use Rattle.mpt_rules.specs.World.State.{World, up_lane, up_on, with_up}
-use Rattle.mpt_rules.proofs.Counts.{post_count-append, reply_count-cons, reply_count-nil}
+use Rattle.mpt_rules.proofs.Counts.{post_count-append, reply_count-cons}
 use Rattle.mpt_rules.proofs.HostCalls.{aborts_by, resets_target_by, submits_by}
 use Rattle.law_facts.specs.Facts.{Facts}
 use Rattle.law_facts.specs.Flights.{Flights}
 use Rattle.law_facts.specs.History.{History, history_after}
 use Rattle.law_facts.specs.Paths.{UpStage, stage_of}
-use Rattle.law_facts.specs.Words.{is_command_asked, is_load, is_post, others, slot}
+use Rattle.law_facts.specs.Words.{is_load, is_post, others, slot}
 use Rattle.law_flights.proofs.Descriptors.{smid_posted}
 use Rattle.law_flights.proofs.HostHolds.{slot_of-set}
-use Rattle.law_flights.proofs.HostQuiet as silence
 use Rattle.law_flights.proofs.Tables.{get_or-set_any}
 use Rattle.law_moves.proofs.Cases.{IsHosts}
 use Rattle.law_moves.proofs.Counted.{fewer_pass, none_passes}

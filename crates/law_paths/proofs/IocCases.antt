@@ -2,11 +2,8 @@
 use Rattle.std.proofs.Common.{◌≡◌, ℕ, zero, suc, ◌+◌, ◌^◌, ◌<◌, ◌≤◌, ◌==◌, ◌&&◌, ◌||◌, not, Bool, true, false, if◌then◌else◌, List, [], ◌∷◌, ◌++◌, Option, Some, None, refl, ap, sym, ◌∙◌, subst, arith}
 use Rattle.std.specs.Prelude.{All}
 use Rattle.std.specs.List.{find}
-use Rattle.std.proofs.lemmas.List.Elements.{All-head, All-nil, All-tail}
-use Rattle.scsi_disk.specs.declared.command.Command.{Command}
-use Rattle.scsi_disk.specs.declared.scsi_result.ScsiResult.{ScsiResult}
-use Rattle.smid_pool.specs.Pool.{Free, Open, Parked, Slot}
-use Rattle.mpi_doorbell.specs.DoorRegisters.{is_fault}
+use Rattle.std.proofs.lemmas.List.Elements.{All-head, All-tail}
+use Rattle.smid_pool.specs.Pool.{Open}
 use Rattle.mpi_rings.specs.declared.request_descriptor.PostKind.TheVariants as post
 use Rattle.mpt_messages.specs.IocFrames.{reply_frame}
 use Rattle.mpt_messages.specs.Refusal.{request_refusal}
@@ -14,26 +11,15 @@ use Rattle.mpt_messages.specs.declared.fault.MsgFault.{MsgFault}
 use Rattle.mpt_messages.specs.declared.ioc_reply.IocReply.TheVariants as reply
 use Rattle.mpt_trace.specs.declared.entry.Entry.{Entry}
 use Rattle.mpt_trace.specs.declared.entry.Entry.TheVariants as entry
-use Rattle.mpt_trace.specs.declared.item.Back.{Back}
-use Rattle.mpt_trace.specs.declared.item.Back.TheVariants as back
-use Rattle.mpt_trace.specs.declared.item.Down.{Down}
-use Rattle.mpt_trace.specs.declared.item.Down.TheVariants as down
-use Rattle.mpt_trace.specs.declared.item.Item.TheVariants as item
 use Rattle.mpt_trace.specs.declared.item.Out.{Out}
 use Rattle.mpt_trace.specs.declared.item.Out.TheVariants as out
-use Rattle.mpt_trace.specs.declared.lane.LaneName.TheVariants as lane
-use Rattle.mpt_wire.specs.Messages.Fields.{dev_handle_in, flags_in, handle_in, ioc_status_in, kind_in, smid_in, task_mid_in}
-use Rattle.mpt_wire.specs.Messages.Naming.{AResult, NotThere, Says, Stopped, said_in, says_status}
-use Rattle.mpt_wire.specs.Paths.Stages.{PathStage, AtController, HasResult}
+use Rattle.mpt_wire.specs.Messages.Fields.{dev_handle_in, flags_in, handle_in, kind_in, smid_in, task_mid_in}
+use Rattle.mpt_wire.specs.Messages.Naming.{NotThere, Stopped, said_in, says_status}
+use Rattle.mpt_wire.specs.Paths.Stages.{AtController}
 use Rattle.mpt_wire.specs.Walks.Passes.{EachEntry}
-use Rattle.mpt_rules.specs.declared.at_fabric.AtFabric.{AtFabric}
-use Rattle.mpt_rules.specs.declared.at_fabric.AtFabric.TheVariants as at
-use Rattle.mpt_rules.specs.declared.at_fabric.HeldReset.{HeldReset}
 use Rattle.mpt_rules.specs.declared.binding.Binding.TheVariants as binding
 use Rattle.mpt_rules.specs.declared.post.Post.{Post}
-use Rattle.mpt_rules.specs.declared.request.Request.{Request}
 use Rattle.mpt_rules.specs.declared.request.Request.TheVariants as request
-use Rattle.mpt_rules.specs.declared.said.Said.{Said}
 use Rattle.mpt_rules.specs.declared.said.Said.TheVariants as said
 use Rattle.mpt_rules.specs.declared.status.TheConstants.{IOC_STATUS_SCSI_DEVICE_NOT_THERE, IOC_STATUS_SCSI_TASK_TERMINATED}
 use Rattle.mpt_rules.specs.Ioc.Commands as commands
@@ -51,21 +37,21 @@ use Rattle.mpt_rules.specs.World.State.{World}
 use Rattle.law_facts.specs.Facts.{Facts}
 use Rattle.law_facts.specs.History.{History, history_after}
 use Rattle.law_facts.specs.Messages.{PostIsRecord}
-use Rattle.law_facts.specs.Paths.{AbortWasTaken, HasItsResult, MayReply, RepliesAt, SaidStage, stage_of}
+use Rattle.law_facts.specs.Paths.{AbortWasTaken, HasItsResult, MayReply, SaidStage, stage_of}
 use Rattle.law_facts.specs.Words.{is_command_asked, slot}
 use Rattle.law_flights.proofs.IocTold.{told_high, told_normal}
 use Rattle.law_flights.proofs.Told.{IsTold}
 use Rattle.law_flights.proofs.WorkLeaves.{GoneHandle, Inconsistent, NoHandle, OtherHandle, ScsiCause, works_leaf}
 use Rattle.law_machine.proofs.Decoded.{scsi_fields}
 use Rattle.law_messages.proofs.Agreeing.{all_same, not_both}
-use Rattle.law_messages.proofs.IocQueues.{Queued, queued_works}
+use Rattle.law_messages.proofs.IocQueues.{queued_works}
 use Rattle.law_messages.proofs.PostsKept.{found_all, found_passes}
 use Rattle.law_messages.proofs.Requests.{IsTame}
 use Rattle.law_messages.proofs.TameTold.{works_tame}
 use Rattle.law_paths.specs.Staged.{At, OutAt, PostAt, Staged}
 use Rattle.law_paths.specs.Tags.{TagsFit}
 use Rattle.law_paths.proofs.Entries.{IsQuiet, equal, mark_stays, same, silent}
-use Rattle.law_paths.proofs.FabricCases.{as_before, quietly}
+use Rattle.law_paths.proofs.FabricCases.{quietly}
 use Rattle.law_paths.proofs.Giving.{Gives, is_task, works}
 use Rattle.law_paths.proofs.PostKinds.{command_there, high_is, mid_is, no_command, none_high, small_handle}
 use Rattle.law_paths.proofs.Moves.{asked_is, is_asked}
@@ -207,11 +193,11 @@ module _ (w : World) (h : History) (f : Facts w h) (tags : TagsFit w)
       pub worked : Staged V K V
       worked =
           let g =
-              works (SaidStage V K) (OutAt V K AtController)
-              (no_events V K) (no_orders V K) i p
-              (λ kd frame page sense c. not_both (is_command_asked (slot w.host (smid_in p.descriptor))) (no_command w h f p post.HighPriority there kd (λ x. let y : post.HighPriority ≡ post.ScsiIo = x in cc)) c)
-              (λ kd frame page sense c. not_both (is_command_asked (slot w.host (smid_in p.descriptor))) (no_command w h f p post.Default there kd (λ x. let y : post.Default ≡ post.ScsiIo = x in cc)) c)
-              unrefused ends (λ kd address command. sent kd) stopped (step.works_on i p) (works_leaf i p) gives in
+          works (SaidStage V K) (OutAt V K AtController)
+          (no_events V K) (no_orders V K) i p
+          (λ kd frame page sense c. not_both (is_command_asked (slot w.host (smid_in p.descriptor))) (no_command w h f p post.HighPriority there kd (λ x. let y : post.HighPriority ≡ post.ScsiIo = x in cc)) c)
+          (λ kd frame page sense c. not_both (is_command_asked (slot w.host (smid_in p.descriptor))) (no_command w h f p post.Default there kd (λ x. let y : post.Default ≡ post.ScsiIo = x in cc)) c)
+          unrefused ends (λ kd address command. sent kd) stopped (step.works_on i p) (works_leaf i p) gives in
           let q = queued_works (PostAt V K AtController) i p (all_same (λ (p : Post). is_command_asked (slot w.host (smid_in p.descriptor)) ≡ false) (PostAt V K AtController) (λ p n c. not_both (is_command_asked (slot w.host (smid_in p.descriptor))) n c) i.high highs, queues) in
           record { out = z.out; down = z.down; normal = q.1; sending = g.out; sent = z.sent; tasks = z.tasks; made = z.made; back = z.back; said = g.said; up = z.up }
 

@@ -1,8 +1,7 @@
 -- Each case leaves each command at the stage of its place.
-use Rattle.std.proofs.Common.{◌≡◌, ℕ, false, [], ◌∷◌, List, refl}
+use Rattle.std.proofs.Common.{◌≡◌, false, [], List, refl}
 use Rattle.mpi_doorbell.specs.DoorRegisters.{is_fault}
 use Rattle.mpt_trace.specs.declared.entry.Entry.{Entry}
-use Rattle.mpt_trace.specs.declared.entry.Entry.TheVariants as entry
 use Rattle.mpt_rules.specs.Host.Takes.{looks, stops}
 use Rattle.mpt_rules.specs.Law.{NothingIsStrange}
 use Rattle.mpt_rules.specs.World.Cases.{Case, entries, happens}
@@ -21,7 +20,6 @@ use Rattle.law_returns.proofs.Whole.{flights_kept, further_at_first, further_kep
 use Rattle.law_standing.proofs.Outcomes as outcomes
 use Rattle.law_paths.specs.Paths.{FurtherPaths, StagesStand}
 use Rattle.law_paths.specs.Staged.{Staged}
-use Rattle.law_paths.specs.Tags.{TagsFit}
 use Rattle.law_paths.proofs.BackCases.{takes_back}
 use Rattle.law_paths.proofs.CommandPosts.{bound, reads}
 use Rattle.law_paths.proofs.DownCases.{puts_down, takes_down}

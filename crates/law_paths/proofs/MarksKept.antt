@@ -1,5 +1,5 @@
 -- Each case keeps that an abort which waits in its queue has set the mark of the command that it names.
-use Rattle.std.proofs.Common.{◌≡◌, ℕ, ◌+◌, ◌^◌, ◌<◌, ◌≤◌, ◌==◌, ◌&&◌, ◌⊎◌, inl, inr, not, Bool, true, false, if◌then◌else◌, List, [], ◌∷◌, ◌++◌, get_or, Option, Some, None, refl, ap, sym, ◌∙◌, subst, arith}
+use Rattle.std.proofs.Common.{◌≡◌, ℕ, ◌^◌, ◌<◌, ◌≤◌, ◌==◌, ◌&&◌, ◌⊎◌, inl, inr, not, Bool, true, false, if◌then◌else◌, List, [], ◌∷◌, ◌++◌, get_or, Option, Some, None, refl, ap, sym, ◌∙◌, subst, arith}
 use Rattle.std.specs.Prelude.{All}
 use Rattle.std.specs.FinMap as finmap
 use Rattle.std.specs.FinSet as finset
@@ -34,13 +34,12 @@ use Rattle.mpt_rules.specs.Host.Posts.{frame_asked}
 use Rattle.mpt_rules.specs.Fabric.Calls as fab
 use Rattle.mpt_rules.specs.Host.Returns.{after_sent}
 use Rattle.mpt_rules.specs.Host.Takes.{hears_up, looks, stops}
-use Rattle.mpt_rules.specs.Ioc.Parts.{Ioc}
 use Rattle.mpt_rules.specs.Ioc.Steps as step
 use Rattle.mpt_rules.specs.Ioc.Tables.{is_post_of}
 use Rattle.mpt_rules.specs.Ioc.Takes as adapter
 use Rattle.mpt_rules.specs.Law.{NothingIsStrange}
 use Rattle.mpt_rules.specs.World.Cases.{Case, entries, happens}
-use Rattle.mpt_rules.specs.World.Counts.{how_many, one_if, queued_count}
+use Rattle.mpt_rules.specs.World.Counts.{one_if, queued_count}
 use Rattle.mpt_rules.specs.World.Inputs.{host_told}
 use Rattle.mpt_rules.specs.World.Lines.{is_high}
 use Rattle.mpt_rules.specs.World.State.{World, up_lane, up_on, with_up}
@@ -49,7 +48,7 @@ use Rattle.law_facts.specs.Clock.{is_linked_up}
 use Rattle.law_facts.specs.Facts.{Facts}
 use Rattle.law_facts.specs.Flights.{AbortNames, Flights, NamesOpen}
 use Rattle.law_facts.specs.History.{History, history_after}
-use Rattle.law_facts.specs.Messages.{DownIsRecord, PostIs, PostIsRecord, TaskPost}
+use Rattle.law_facts.specs.Messages.{DownIsRecord, PostIs, PostIsRecord}
 use Rattle.law_facts.specs.Paths.{AbortWasTaken}
 use Rattle.law_facts.specs.Words.{is_command_asked, is_post, others, slot}
 use Rattle.law_asked.proofs.Firm.{firm_by_places, not_live_there, stays}
@@ -64,8 +63,8 @@ use Rattle.law_messages.proofs.PostsKept.{known_live}
 use Rattle.law_messages.proofs.Requests.{IsNoAccept}
 use Rattle.law_messages.proofs.Shown.{leads}
 use Rattle.law_messages.proofs.TameTold as tame
-use Rattle.law_moves.proofs.CasesTold.{IsPlugWord, OwesTold, kept_told}
-use Rattle.law_moves.proofs.Counted.{how_many-cons, others-cons}
+use Rattle.law_moves.proofs.CasesTold.{OwesTold, kept_told}
+use Rattle.law_moves.proofs.Counted.{others-cons}
 use Rattle.law_returns.proofs.Whole.{flights_kept}
 use Rattle.law_standing.proofs.PostsPass.{named}
 use Rattle.law_paths.specs.Paths.{FurtherPaths, MarksStand}

@@ -1,5 +1,5 @@
 -- What a disk gives to an open command is at most as long as that asks for, whatever is told.
-use Rattle.std.proofs.Common.{drop, ◌≡◌, ℕ, ◌*◌, ◌≤◌, ◌==◌, Bool, true, false, if◌then◌else◌, List, [], ◌∷◌, ◌++◌, length, length-take, min, take, Option, Some, None, refl, ap, sym, ◌∙◌, subst, arith}
+use Rattle.std.proofs.Common.{drop, ◌≡◌, ℕ, ◌*◌, ◌≤◌, ◌==◌, Bool, true, false, if◌then◌else◌, List, [], ◌∷◌, ◌++◌, length, length-take, min, take, Option, Some, None, refl, sym, ◌∙◌, subst, arith}
 use Rattle.std.specs.FinMap as finmap
 use Rattle.scsi_disk.specs.Operation as op
 use Rattle.scsi_disk.specs.declared.operation.Operation.{Operation}
@@ -10,7 +10,7 @@ use Rattle.scsi_disk.specs.Performed as disk
 use Rattle.scsi_disk.specs.declared.command.Command.{Command}
 use Rattle.scsi_disk.specs.declared.scsi_result.ScsiResult.{ScsiResult}
 use Rattle.mpt_wire.specs.Machine.Causes as calls
-use Rattle.mpt_wire.specs.Machine.State.{Machine, MachineDisk, OpenRequest, put_at}
+use Rattle.mpt_wire.specs.Machine.State.{Machine, MachineDisk, OpenRequest}
 use Rattle.mpt_wire.specs.Machine.Steps.{Step, Answers, EndsAbort, EndsReset, EndsTargetReset, Fails, GetsReady, GetsUp, Grants, HasLeft, IsLost, Leaves, Refuses, Runs, accepted, after, after_abort_end, after_all, run_at}
 use Rattle.mpt_wire.specs.Machine.View.{Seen, seen_next, steps_of}
 use Rattle.mpt_wire.specs.Walks.Ahead.{next_own, state_ahead}

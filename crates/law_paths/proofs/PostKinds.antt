@@ -7,7 +7,7 @@ use Rattle.hex.specs.Hex.{IsBytes}
 use Rattle.smid_pool.specs.Pool.{Free, Open, Parked, Slot}
 use Rattle.mpi_rings.specs.declared.request_descriptor.PostKind.{PostKind}
 use Rattle.mpi_rings.specs.declared.request_descriptor.PostKind.TheVariants as post
-use Rattle.mpt_messages.specs.HostFrames.{IsTask, scsi_io_asked, task_asked}
+use Rattle.mpt_messages.specs.HostFrames.{scsi_io_asked, task_asked}
 use Rattle.mpt_messages.specs.declared.host_ask.HostAsk.TheVariants as ask
 use Rattle.mpt_messages.proofs.FrameStands.{host_frame_stands}
 use Rattle.mpt_messages.proofs.HostFits.{task_fits}
@@ -15,7 +15,7 @@ use Rattle.scsi_disk.specs.declared.command.Command.{Command}
 use Rattle.scsi_msgs.specs.ScsiIo.{scsi_io_layout, scsi_io_values}
 use Rattle.scsi_msgs.specs.TaskAsk.{task_ask_layout, task_ask_values}
 use Rattle.mpt_wire.specs.Machine.State.{OpenRequest}
-use Rattle.mpt_wire.specs.Messages.Fields.{abort_task, dev_handle_in, flags_in, kind_in, post_descriptor, smid_in, target_reset, task_mid_in}
+use Rattle.mpt_wire.specs.Messages.Fields.{abort_task, dev_handle_in, kind_in, smid_in, target_reset, task_mid_in}
 use Rattle.mpt_rules.specs.declared.post.Post.{Post}
 use Rattle.mpt_rules.specs.declared.request.Request.{Request}
 use Rattle.mpt_rules.specs.declared.request.Request.TheVariants as request
@@ -31,7 +31,7 @@ use Rattle.law_facts.specs.Words.{is_command_asked, others, slot}
 use Rattle.law_flights.proofs.Decode.{mid_asked}
 use Rattle.law_flights.proofs.Descriptors.{kind_posted}
 use Rattle.law_moves.proofs.Counted.{others-cons}
-use Rattle.law_messages.proofs.Known.{classed, command_of, inside}
+use Rattle.law_messages.proofs.Known.{command_of}
 use Rattle.law_standing.proofs.FrameBytes.{field_lt, layout}
 use Rattle.law_standing.proofs.PostsPass.{named}
 

@@ -1,44 +1,30 @@
 -- From the places of an identifier to the items that name it, and back; and how the items of a world are staged behind another.
 use Rattle.std.proofs.Common.{◌≡◌, ℕ, ◌+◌, ◌≤◌, ◌==◌, Bool, true, false, List, [], ◌∷◌, get_or, Option, Some, None, refl, ap, sym, ◌∙◌, subst, arith}
 use Rattle.std.specs.Prelude.{All}
-use Rattle.std.proofs.lemmas.List.Elements.{All-cons, All-head, All-nil, All-tail}
-use Rattle.scsi_disk.specs.declared.scsi_result.ScsiResult.{ScsiResult}
-use Rattle.smid_pool.specs.Pool.{Free, Open, Parked, Slot}
+use Rattle.std.proofs.lemmas.List.Elements.{All-head, All-tail}
 use Rattle.mpt_trace.specs.declared.item.Back.{Back}
 use Rattle.mpt_trace.specs.declared.item.Back.TheVariants as back
 use Rattle.mpt_trace.specs.declared.item.Down.{Down}
 use Rattle.mpt_trace.specs.declared.item.Down.TheVariants as down
 use Rattle.mpt_trace.specs.declared.item.Out.{Out}
 use Rattle.mpt_trace.specs.declared.item.Out.TheVariants as out
-use Rattle.mpt_trace.specs.declared.item.Up.{Up}
-use Rattle.mpt_trace.specs.declared.item.Up.TheVariants as up
 use Rattle.mpt_wire.specs.Messages.Fields.{smid_in}
-use Rattle.mpt_wire.specs.Messages.Naming.{Says, NotThere, Stopped, AResult, said_in}
-use Rattle.mpt_wire.specs.Paths.Stages.{PathStage, Accepted, Posted, AtController, Sent, AtDisk, HasRun, SaysResult, HasResult, SaysGone, HasGone, SaysTerminated, HasTerminated, Replied, Heard}
+use Rattle.mpt_wire.specs.Paths.Stages.{PathStage, Accepted, Posted, AtController, Sent, AtDisk, HasRun}
 use Rattle.mpt_rules.specs.declared.post.Post.{Post}
-use Rattle.mpt_rules.specs.declared.request.Request.{Request}
-use Rattle.mpt_rules.specs.declared.request.Request.TheVariants as request
-use Rattle.mpt_rules.specs.declared.said.Said.{Said}
-use Rattle.mpt_rules.specs.declared.said.Said.TheVariants as said
 use Rattle.mpt_rules.specs.declared.task.Task.{Task}
 use Rattle.mpt_rules.specs.Fabric.Tasks.{has_tag}
-use Rattle.mpt_rules.specs.Host.Replies.{ended}
 use Rattle.mpt_rules.specs.Ioc.Tables.{is_post_of}
-use Rattle.mpt_rules.specs.Ioc.Places.{is_reply_of}
-use Rattle.mpt_rules.specs.World.Counts.{how_many, one_if, post_count, queued_count, reply_count}
+use Rattle.mpt_rules.specs.World.Counts.{how_many, one_if, post_count, queued_count}
 use Rattle.mpt_rules.specs.World.FabricCounts.{gone_count, is_gone_of, is_result_of, is_task_of, is_termination_of, result_count, sent_task_count, task_count, terminated_count}
-use Rattle.mpt_rules.specs.World.Lines.{said_of}
 use Rattle.mpt_rules.specs.World.Places.{is_posted_as}
-use Rattle.mpt_rules.specs.World.PlaceCounts.{replies_on}
-use Rattle.mpt_rules.specs.World.State.{World, up_on}
-use Rattle.mpt_rules.specs.Ioc.Replies.{outbox_of}
+use Rattle.mpt_rules.specs.World.State.{World}
 use Rattle.law_facts.specs.Facts.{Facts}
 use Rattle.law_facts.specs.History.{History}
-use Rattle.law_facts.specs.Paths.{BackStage, HasItsResult, MayReply, RepliesAt, SaidStage, StageOfPlace, UpStage, stage_of}
+use Rattle.law_facts.specs.Paths.{StageOfPlace, stage_of}
 use Rattle.law_facts.specs.Words.{is_command_asked, slot}
 use Rattle.law_moves.proofs.Counted.{how_many-cons, how_many-nil}
-use Rattle.law_messages.proofs.Agreeing.{all_passing, all_same}
-use Rattle.law_asked.proofs.Lists.{all_both, all_each, counts_first, counts_more, each_counted}
+use Rattle.law_messages.proofs.Agreeing.{all_same}
+use Rattle.law_asked.proofs.Lists.{counts_first, counts_more, each_counted}
 use Rattle.law_paths.specs.Staged.{At, DownAt, MadeAt, OutAt, PostAt, Staged, TaskAt}
 use Rattle.law_paths.proofs.Entries.{same}
 

@@ -1,5 +1,5 @@
 -- Each case keeps that what the fabric tells of tasks that ended is of identifiers that there are.
-use Rattle.std.proofs.Common.{◌≡◌, ℕ, ◌≤◌, ◌&&◌, not, Bool, true, false, if◌then◌else◌, List, [], ◌∷◌, ◌++◌, append_assoc, map, Option, Some, None, option_map, refl, ap, sym, ◌∙◌, subst, arith}
+use Rattle.std.proofs.Common.{◌≡◌, ℕ, ◌≤◌, not, Bool, true, false, List, [], ◌∷◌, ◌++◌, append_assoc, map, Option, Some, None, option_map, refl, ap, sym, ◌∙◌, subst, arith}
 use Rattle.std.specs.Prelude.{All, filter_map}
 use Rattle.std.specs.List.{cons_option, filter, find}
 use Rattle.std.proofs.lemmas.List.Elements.{All-append, All-cons, All-filter, All-head, All-nil, All-tail}
@@ -19,7 +19,6 @@ use Rattle.mpt_rules.specs.Fabric.Tasks.{has_tag, runs_task}
 use Rattle.mpt_rules.specs.Law.{NothingIsStrange}
 use Rattle.mpt_rules.specs.World.Cases.{Case, happens}
 use Rattle.mpt_rules.specs.World.Counts.{one_if}
-use Rattle.mpt_rules.specs.World.Lines.{back_line}
 use Rattle.mpt_rules.specs.World.Settings.{Setting, first_world}
 use Rattle.mpt_rules.specs.World.State.{World}
 use Rattle.law_facts.specs.Facts.{Facts}
@@ -33,7 +32,6 @@ use Rattle.law_messages.proofs.Agreeing.{all_first, all_last, all_one, all_same}
 use Rattle.law_messages.proofs.Known.{inside}
 use Rattle.law_messages.proofs.PostsKept.{found_all, found_passes, live_is_open}
 use Rattle.law_standing.proofs.PostsPass.{named}
-use Rattle.law_asked.proofs.Lists.{all_mapped}
 use Rattle.law_paths.specs.Tags.{HasTag, TagsFit}
 
 abbrev pub is_ended : Back → Bool
@@ -207,8 +205,8 @@ module _ (w : World) (h : History) (f : Facts w h) (tags : TagsFit w) where
         ioc_puts = λ queue y rest z e u. tags;
         fabric_takes = λ x rest e.
             with_out _ (takes w.fabric tasks_within made_tags x
-                (λ tag address command i. live_within tag address command (subst (OutIs w h) i (sent_is x rest e)))
-                (λ smid task i. aborts_within smid task (subst (OutIs w h) i (sent_is x rest e))));
+            (λ tag address command i. live_within tag address command (subst (OutIs w h) i (sent_is x rest e)))
+            (λ smid task i. aborts_within smid task (subst (OutIs w h) i (sent_is x rest e))));
         fabric_says = λ x rest e. with_out _ (All-append HasTag w.fabric.out (x ∷ []) made_tags (all_one HasTag x (plain x (let n = first_notice x rest e in n.0))));
         fabric_puts = λ x rest e. subst (All HasTag) (sym (append_assoc w.back (x ∷ []) rest ∙ ap (λ xs. w.back ++ xs) (sym e))) tags;
         fabric_runs = λ tag address e. with_out _ (runs w.fabric tasks_within made_tags tag);

@@ -1,7 +1,6 @@
 -- Each reply to a command that the controller puts tells the command's result as it is, or nothing where there is none.
-use Rattle.std.proofs.Common.{◌≡◌, ℕ, ◌^◌, ◌<◌, ◌≤◌, ◌==◌, ◌&&◌, nat_lt, Bool, true, false, if◌then◌else◌, List, [], ◌∷◌, ◌++◌, get_or, length, slice_get, Option, Some, None, option_map, refl, ap, sym, ◌∙◌, subst, arith}
+use Rattle.std.proofs.Common.{◌≡◌, ℕ, ◌^◌, ◌<◌, ◌≤◌, ◌==◌, nat_lt, Bool, true, false, if◌then◌else◌, List, [], ◌∷◌, get_or, length, slice_get, Option, Some, None, option_map, refl, ap, sym, ◌∙◌, subst, arith}
 use Rattle.std.specs.Bool.{MatchBool}
-use Rattle.std.specs.Prelude.{MatchOption}
 use Rattle.std.specs.FinMap as finmap
 use Rattle.std.specs.FinSet as finset
 use Rattle.std.proofs.lemmas.Bool.Decides.{nat_tests}
@@ -32,7 +31,7 @@ use Rattle.mpt_wire.specs.Machine.State.{OpenRequest}
 use Rattle.mpt_wire.specs.Messages.Fields.{address_descriptor, address_flags, flags_in, ioc_status_in, reply_frame_address, scsi_status_in, sense_count_in, smid_in, success_descriptor, transfer_count_in}
 use Rattle.mpt_wire.specs.Messages.Naming.{AResult, NotThere, Says, Stopped, data_underrun, names_command, said_in, success}
 use Rattle.mpt_wire.specs.Paths.Commands.{Live}
-use Rattle.mpt_wire.specs.Paths.Replies.{FrameTells, HasFrame, RepliesAsk, Tells, TellsAt, TellsNothing, autosense_valid, is_whole, scsi_state_in, state_of_sense, status_of}
+use Rattle.mpt_wire.specs.Paths.Replies.{FrameTells, HasFrame, RepliesAsk, Tells, TellsAt, TellsNothing, autosense_valid, is_whole, scsi_state_in, state_of_sense}
 use Rattle.mpt_wire.specs.Paths.Stages.{PathStage, Accepted, Posted, AtController, Sent, AtDisk, HasRun, SaysResult, HasResult, SaysGone, HasGone, SaysTerminated, HasTerminated, Replied, Heard, Walk, walk_next}
 use Rattle.mpt_wire.specs.Walks.Passes.{EachEntry, Passes}
 use Rattle.mpt_rules.specs.declared.post.Post.{Post}
@@ -170,8 +169,8 @@ plug_untold (e ∷ t) a = (one e a.0, plug_untold t a.1)
 
 reply_numbers : (handle smid scsi status moved sense : ℕ) → handle < 2 ^ 16 → smid < 2 ^ 16 → scsi < 2 ^ 8 → status < 2 ^ 16 → moved < 2 ^ 32 → sense < 2 ^ 32
     → (ioc_status_in (reply_frame (reply.Scsi handle smid scsi status moved sense)) ≡ status) × (scsi_status_in (reply_frame (reply.Scsi handle smid scsi status moved sense)) ≡ scsi)
-      × (scsi_state_in (reply_frame (reply.Scsi handle smid scsi status moved sense)) ≡ (if sense == 0 then 0 else autosense_valid))
-      × (transfer_count_in (reply_frame (reply.Scsi handle smid scsi status moved sense)) ≡ moved) × (sense_count_in (reply_frame (reply.Scsi handle smid scsi status moved sense)) ≡ sense)
+    × (scsi_state_in (reply_frame (reply.Scsi handle smid scsi status moved sense)) ≡ (if sense == 0 then 0 else autosense_valid))
+    × (transfer_count_in (reply_frame (reply.Scsi handle smid scsi status moved sense)) ≡ moved) × (sense_count_in (reply_frame (reply.Scsi handle smid scsi status moved sense)) ≡ sense)
 unfolding scsi_reply_layout scsi_reply_values
 reply_numbers handle smid scsi status moved sense a b c d e f =
     let s = reply_frame_stands (reply.Scsi handle smid scsi status moved sense) (grind (arith, nat_tests)) tt in
@@ -238,13 +237,13 @@ module _ (s handle : ℕ) (c : Command) (r : ScsiResult) (a : handle < 2 ^ 16) (
           let p : page ≡ r.payload = cc in let q : sense ≡ r.sense = cc in
           let n = reply_numbers handle s r.status (result_status (moved c r) c.len) (moved c r) (length r.sense) a b k (status_short (moved c r) c.len) v g in
           let told : FrameTells c r f =
-              record {
-                ioc_status = ap ioc_status_in z ∙ (n.0 ∙ status_is (moved c r) c.len l);
-                scsi_status = ap scsi_status_in z ∙ n.1;
-                scsi_state = ap scsi_state_in z ∙ (n.2 ∙ sense_state r.sense);
-                moved = ap transfer_count_in z ∙ n.3;
-                sense = ap sense_count_in z ∙ n.4;
-              } in
+          record {
+            ioc_status = ap ioc_status_in z ∙ (n.0 ∙ status_is (moved c r) c.len l);
+            scsi_status = ap scsi_status_in z ∙ n.1;
+            scsi_state = ap scsi_state_in z ∙ (n.2 ∙ sense_state r.sense);
+            moved = ap transfer_count_in z ∙ n.3;
+            sense = ap sense_count_in z ∙ n.4;
+          } in
           (p, q, (o, told))
 
 -- ---- a reply that the controller puts
@@ -390,8 +389,11 @@ module _ (w : World) (h : History) (f : Facts w h) (tags : TagsFit w) (fit : Out
           let b = first_said w h f tags fit queue (said.Framed s frame page sense) rest e in
           let i = smid_addressed s (reply_frame_address g) (short_of w h f tags fit queue s (Some frame) page sense b) in
           lone (up.Reply (address_descriptor s (reply_frame_address g)) (Some frame) page sense) (same_item (up.Reply (address_descriptor s (reply_frame_address g)) (Some frame) page sense) z u)
-          (λ k. (one_tells queue (address_descriptor s (reply_frame_address g)) (Some frame) page sense (flagged s (reply_frame_address g))
-          (subst (λ q. RepliesAt w h q (Some frame)) (sym i) (first_stage w h f tags fit queue (said.Framed s frame page sense) rest e)) (subst (λ q. SaidIs w h queue (said_reply q (Some frame) page sense)) (sym i) b) k, tt))
+          (λ k. (
+            one_tells queue (address_descriptor s (reply_frame_address g)) (Some frame) page sense (flagged s (reply_frame_address g))
+                (subst (λ q. RepliesAt w h q (Some frame)) (sym i) (first_stage w h f tags fit queue (said.Framed s frame page sense) rest e)) (subst (λ q. SaidIs w h queue (said_reply q (Some frame) page sense)) (sym i) b) k,
+            tt,
+          ))
 
       by_said : (y : Said) → outbox_of w.ioc queue ≡ y ∷ rest → up_of y (slice_get w.ioc.ring 0) ≡ Some z → OnCase w (entry.Put (up_lane queue) (item.Up z) ∷ [])
       by_said (said.Value n) e u = lone (up.Value n) (same_item (up.Value n) z u) (λ k. (tt, tt))
@@ -401,8 +403,11 @@ module _ (w : World) (h : History) (f : Facts w h) (tags : TagsFit w) (fit : Out
           let b = first_said w h f tags fit queue (said.Success s page sense) rest e in
           let i = smid_succeeded s (short_of w h f tags fit queue s None page sense b) in
           lone (up.Reply (success_descriptor s) None page sense) (same_item (up.Reply (success_descriptor s) None page sense) z u)
-          (λ k. (one_tells queue (success_descriptor s) None page sense (ap success_descriptor (sym i))
-          (subst (λ q. RepliesAt w h q None) (sym i) (first_stage w h f tags fit queue (said.Success s page sense) rest e)) (subst (λ q. SaidIs w h queue (said_reply q None page sense)) (sym i) b) k, tt))
+          (λ k. (
+            one_tells queue (success_descriptor s) None page sense (ap success_descriptor (sym i))
+                (subst (λ q. RepliesAt w h q None) (sym i) (first_stage w h f tags fit queue (said.Success s page sense) rest e)) (subst (λ q. SaidIs w h queue (said_reply q None page sense)) (sym i) b) k,
+            tt,
+          ))
       by_said (said.Framed s frame page sense) e u = by_free s frame page sense (slice_get w.ioc.ring 0) e u
 
   -- ---- every other case

@@ -2,13 +2,11 @@
 use Rattle.std.proofs.Common.{◌≡◌, ℕ, zero, suc, ◌+◌, ◌^◌, ◌<◌, ◌≤◌, ◌==◌, cond, nat_lt, Bool, true, false, if◌then◌else◌, List, [], ◌∷◌, ◌++◌, bit_and, drop, get_or, length, set, slice_get, Option, Some, None, refl, ap, sym, ◌∙◌, subst, arith}
 use Rattle.std.specs.Prelude.{All}
 use Rattle.std.specs.FinMap as finmap
-use Rattle.std.specs.List.{sum_by}
 use Rattle.std.proofs.lemmas.List.{get_or_past}
-use Rattle.std.proofs.lemmas.List.Elements.{All-append, All-head, All-nil, All-tail}
+use Rattle.std.proofs.lemmas.List.Elements.{All-append, All-head}
 use Rattle.std.proofs.lemmas.List.Sums.{sum_by-set}
 use Rattle.scsi_disk.specs.declared.scsi_result.ScsiResult.{ScsiResult}
 use Rattle.smid_pool.specs.Pool.{Free, Open, Slot}
-use Rattle.mpt_trace.specs.declared.entry.Entry.{Entry}
 use Rattle.mpt_trace.specs.declared.entry.Entry.TheVariants as entry
 use Rattle.mpt_trace.specs.declared.item.Item.TheVariants as item
 use Rattle.mpt_trace.specs.declared.item.Up.{Up}
@@ -26,12 +24,12 @@ use Rattle.mpt_rules.specs.declared.said.Said.TheVariants as said
 use Rattle.mpt_rules.specs.declared.status.TheConstants.{IOC_STATUS_MASK}
 use Rattle.mpt_rules.specs.Host.Parts.{Cmd}
 use Rattle.mpt_rules.specs.Host.Replies.{ended, ended_by}
-use Rattle.mpt_rules.specs.Ioc.Commands.{moved_by, result_said, written_by}
+use Rattle.mpt_rules.specs.Ioc.Commands.{moved_by, written_by}
 use Rattle.mpt_rules.specs.Ioc.Places.{is_reply_of}
 use Rattle.mpt_rules.specs.Ioc.Replies.{outbox_of}
 use Rattle.mpt_rules.specs.Ioc.Sending.{up_of, up_sent_on}
 use Rattle.mpt_rules.specs.World.Counts.{one_if, reply_count}
-use Rattle.mpt_rules.specs.World.Lines.{said_of, said_reply, up_line}
+use Rattle.mpt_rules.specs.World.Lines.{said_of, said_reply}
 use Rattle.mpt_rules.specs.World.State.{World, up_lane, up_on, with_up}
 use Rattle.mpt_rules.proofs.Counts.{reply_count-cons}
 use Rattle.law_facts.specs.Facts.{Facts}
@@ -44,15 +42,15 @@ use Rattle.law_flights.proofs.Tables.{get_or-set_any}
 use Rattle.law_machine.proofs.Answered.{told_result}
 use Rattle.law_messages.proofs.Agreeing.{all_last, all_one, not_both}
 use Rattle.law_standing.specs.Written.{OutcomesFit}
-use Rattle.law_paths.specs.Staged.{At, OutAt, Staged}
+use Rattle.law_paths.specs.Staged.{OutAt, Staged}
 use Rattle.law_paths.specs.Tags.{TagsFit}
 use Rattle.law_paths.proofs.Alone.{alone, low, spots, within}
 use Rattle.law_paths.proofs.BackCases.{moved_fits}
 use Rattle.law_paths.proofs.DownCases.{named_within, unnamed}
 use Rattle.law_paths.proofs.Entries.{Silent, equal, first_leads, is_named, not_named, of_item, same}
 use Rattle.law_paths.proofs.FabricCases.{begin, by_name, leads_to, quietly}
-use Rattle.law_paths.proofs.Giving.{Gives, put}
-use Rattle.law_paths.proofs.Moves.{asked_is, is_asked}
+use Rattle.law_paths.proofs.Giving.{put}
+use Rattle.law_paths.proofs.Moves.{asked_is}
 
 -- what a status says is how the command ended
 says_gone : (n : ℕ) → says_status n ≡ NotThere → n ≡ device_not_there
@@ -102,49 +100,49 @@ module _ (w : World) (h : History) where
 
 -- how the stage goes on behind a reply that may come
 module _ (h : History) (s n : ℕ) (frame : Option (List ℕ)) (page sense : List ℕ) (done : (r : ScsiResult) → h.machine.outcome n ≡ Some r → ended frame page sense ≡ ending.Done r) where
-    replied : (a : Says) (c : PathStage) → said_in frame ≡ a → MayReply h s a c → HasItsResult h s c (Open (request.Command n)) → stage_after c (PutsReply a) ≡ Replied a (ended frame page sense)
-    replied AResult Accepted i m o = absurd m
-    replied AResult Posted i m o = absurd m
-    replied AResult AtController i m o = absurd m
-    replied AResult Sent i m o = absurd m
-    replied AResult AtDisk i m o = absurd m
-    replied AResult HasRun i m o = absurd m
-    replied AResult (SaysResult x) i m o = absurd m
-    replied AResult (HasResult x) i m o = ap (Replied AResult) (sym (done x o))
-    replied AResult SaysGone i m o = absurd m
-    replied AResult HasGone i m o = absurd m
-    replied AResult SaysTerminated i m o = absurd m
-    replied AResult HasTerminated i m o = absurd m
-    replied AResult (Replied y z) i m o = absurd m
-    replied AResult (Heard z) i m o = absurd m
-    replied NotThere Accepted i m o = absurd m
-    replied NotThere Posted i m o = absurd m
-    replied NotThere AtController i m o = ap (Replied NotThere) (sym (gone_by frame page sense i))
-    replied NotThere Sent i m o = absurd m
-    replied NotThere AtDisk i m o = absurd m
-    replied NotThere HasRun i m o = absurd m
-    replied NotThere (SaysResult x) i m o = absurd m
-    replied NotThere (HasResult x) i m o = absurd m
-    replied NotThere SaysGone i m o = absurd m
-    replied NotThere HasGone i m o = ap (Replied NotThere) (sym (gone_by frame page sense i))
-    replied NotThere SaysTerminated i m o = absurd m
-    replied NotThere HasTerminated i m o = absurd m
-    replied NotThere (Replied y z) i m o = absurd m
-    replied NotThere (Heard z) i m o = absurd m
-    replied Stopped Accepted i m o = absurd m
-    replied Stopped Posted i m o = absurd m
-    replied Stopped AtController i m o = ap (Replied Stopped) (sym (stopped_by frame page sense i))
-    replied Stopped Sent i m o = absurd m
-    replied Stopped AtDisk i m o = absurd m
-    replied Stopped HasRun i m o = absurd m
-    replied Stopped (SaysResult x) i m o = absurd m
-    replied Stopped (HasResult x) i m o = absurd m
-    replied Stopped SaysGone i m o = absurd m
-    replied Stopped HasGone i m o = absurd m
-    replied Stopped SaysTerminated i m o = absurd m
-    replied Stopped HasTerminated i m o = ap (Replied Stopped) (sym (stopped_by frame page sense i))
-    replied Stopped (Replied y z) i m o = absurd m
-    replied Stopped (Heard z) i m o = absurd m
+  replied : (a : Says) (c : PathStage) → said_in frame ≡ a → MayReply h s a c → HasItsResult h s c (Open (request.Command n)) → stage_after c (PutsReply a) ≡ Replied a (ended frame page sense)
+  replied AResult Accepted i m o = absurd m
+  replied AResult Posted i m o = absurd m
+  replied AResult AtController i m o = absurd m
+  replied AResult Sent i m o = absurd m
+  replied AResult AtDisk i m o = absurd m
+  replied AResult HasRun i m o = absurd m
+  replied AResult (SaysResult x) i m o = absurd m
+  replied AResult (HasResult x) i m o = ap (Replied AResult) (sym (done x o))
+  replied AResult SaysGone i m o = absurd m
+  replied AResult HasGone i m o = absurd m
+  replied AResult SaysTerminated i m o = absurd m
+  replied AResult HasTerminated i m o = absurd m
+  replied AResult (Replied y z) i m o = absurd m
+  replied AResult (Heard z) i m o = absurd m
+  replied NotThere Accepted i m o = absurd m
+  replied NotThere Posted i m o = absurd m
+  replied NotThere AtController i m o = ap (Replied NotThere) (sym (gone_by frame page sense i))
+  replied NotThere Sent i m o = absurd m
+  replied NotThere AtDisk i m o = absurd m
+  replied NotThere HasRun i m o = absurd m
+  replied NotThere (SaysResult x) i m o = absurd m
+  replied NotThere (HasResult x) i m o = absurd m
+  replied NotThere SaysGone i m o = absurd m
+  replied NotThere HasGone i m o = ap (Replied NotThere) (sym (gone_by frame page sense i))
+  replied NotThere SaysTerminated i m o = absurd m
+  replied NotThere HasTerminated i m o = absurd m
+  replied NotThere (Replied y z) i m o = absurd m
+  replied NotThere (Heard z) i m o = absurd m
+  replied Stopped Accepted i m o = absurd m
+  replied Stopped Posted i m o = absurd m
+  replied Stopped AtController i m o = ap (Replied Stopped) (sym (stopped_by frame page sense i))
+  replied Stopped Sent i m o = absurd m
+  replied Stopped AtDisk i m o = absurd m
+  replied Stopped HasRun i m o = absurd m
+  replied Stopped (SaysResult x) i m o = absurd m
+  replied Stopped (HasResult x) i m o = absurd m
+  replied Stopped SaysGone i m o = absurd m
+  replied Stopped HasGone i m o = absurd m
+  replied Stopped SaysTerminated i m o = absurd m
+  replied Stopped HasTerminated i m o = ap (Replied Stopped) (sym (stopped_by frame page sense i))
+  replied Stopped (Replied y z) i m o = absurd m
+  replied Stopped (Heard z) i m o = absurd m
 
 module _ (w : World) (h : History) (f : Facts w h) (tags : TagsFit w) (fit : OutcomesFit h) where
   -- a result that is said is the machine's

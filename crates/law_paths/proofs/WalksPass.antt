@@ -31,11 +31,11 @@ use Rattle.mpt_trace.specs.declared.item.Up.{Up}
 use Rattle.mpt_trace.specs.declared.item.Up.TheVariants as up
 use Rattle.mpt_trace.specs.declared.lane.LaneName.TheVariants as lane
 use Rattle.mpt_trace.specs.declared.refusal.RefusedCall.TheVariants as call
-use Rattle.mpt_wire.specs.Machine.Causes.{is_resetting, is_up}
+use Rattle.mpt_wire.specs.Machine.Causes.{is_up}
 use Rattle.mpt_wire.specs.Messages.Fields.{abort_task, function_in, smid_in, task_mid_in, task_type_in}
 use Rattle.mpt_wire.specs.Messages.Naming.{is_high_priority, names_command, said_in}
 use Rattle.mpt_wire.specs.Paths.Commands.{Live, live_mark, mark_if, path_mark_of}
-use Rattle.mpt_wire.specs.Paths.Stages.{Accepted, AtController, AtDisk, HasRun, Heard, MayFollow, PathStage, Posted, Replied, SaysGone, SaysResult, SaysTerminated, Sent, Walk, WalkAsks, stage_after, stage_if, walk_next}
+use Rattle.mpt_wire.specs.Paths.Stages.{Accepted, AtController, AtDisk, HasRun, Heard, MayFollow, PathStage, Posted, Replied, SaysGone, SaysResult, SaysTerminated, Sent, WalkAsks, stage_after, walk_next}
 use Rattle.mpt_wire.specs.Paths.Table.{PathMark, PutsGone, PutsPost, PutsReply, PutsResult, PutsTask, PutsTerminated, RunsAt, TakesAbort, TakesGone, TakesPost, TakesReply, TakesResult, TakesTask, TakesTerminated}
 use Rattle.mpt_wire.specs.Walks.Passes.{EachEntry, Passes}
 use Rattle.mpt_rules.specs.declared.at_fabric.AtFabric.{AtFabric}
@@ -55,7 +55,7 @@ use Rattle.mpt_rules.specs.Host.Inputs as inputs
 use Rattle.mpt_rules.specs.Host.Parts.{Host}
 use Rattle.mpt_rules.specs.Host.Replies as replies
 use Rattle.mpt_rules.specs.Host.Resets.{ends_reset, ends_reset_if_over, has_all_marks, reset_abort, reset_answer, reset_target, reset_told}
-use Rattle.mpt_rules.specs.Host.Takes.{hears_up, looks, stops}
+use Rattle.mpt_rules.specs.Host.Takes.{hears_up}
 use Rattle.mpt_rules.specs.Host.Values.{after_turn, ends_stage, hears_value_at}
 use Rattle.mpt_rules.specs.Ioc.Replies.{outbox_of}
 use Rattle.mpt_rules.specs.Ioc.Sending.{up_of}
@@ -65,7 +65,7 @@ use Rattle.mpt_rules.specs.Ioc.Takes as adapter
 use Rattle.mpt_rules.specs.Law.{NothingIsStrange}
 use Rattle.mpt_rules.specs.World.Cases.{Case, entries}
 use Rattle.mpt_rules.specs.World.Counts.{one_if, post_count}
-use Rattle.mpt_rules.specs.World.FabricCounts.{gone_count, result_count, sent_task_count, task_count, terminated_count}
+use Rattle.mpt_rules.specs.World.FabricCounts.{gone_count, result_count, sent_task_count, terminated_count}
 use Rattle.mpt_rules.specs.World.Inputs.{by_result, host_told}
 use Rattle.mpt_rules.specs.World.Lines.{back_line}
 use Rattle.mpt_rules.specs.World.State.{World, up_lane, up_on}
@@ -74,22 +74,21 @@ use Rattle.mpt_rules.proofs.FabricCounts.{gone_count-append, gone_count-cons, re
 use Rattle.mpt_rules.proofs.HostCalls.{aborts_by, resets_target_by, submits_by}
 use Rattle.law_facts.specs.Clock.{in_reset, is_live}
 use Rattle.law_facts.specs.Facts.{Facts}
-use Rattle.law_facts.specs.Flights.{class_asked, command_tokens}
+use Rattle.law_facts.specs.Flights.{command_tokens}
 use Rattle.law_facts.specs.History.{History}
 use Rattle.law_facts.specs.Messages.{BackIs, CommandAt, DownIsRecord, HasOutcome, IsLiveTask, IsUnknown, OutIs, PostIsRecord, RequestIs, SaidIs, TaskIs}
-use Rattle.law_facts.specs.Paths.{BackStage, MayReply, RepliesAt, SaidStage, UpStage, stage_of}
-use Rattle.law_facts.specs.Words.{is_command, is_command_asked, is_post, slot}
+use Rattle.law_facts.specs.Paths.{BackStage, RepliesAt, UpStage, stage_of}
+use Rattle.law_facts.specs.Words.{is_command, is_command_asked, slot}
 use Rattle.law_flights.proofs.IocTold.{told_back, told_down, told_high, told_normal}
 use Rattle.law_flights.proofs.Least.{IsLeast, least_is}
-use Rattle.law_machine.proofs.Lane.{answer_is}
-use Rattle.law_messages.proofs.Agreeing.{all_first, all_last, not_both}
+use Rattle.law_messages.proofs.Agreeing.{all_last}
 use Rattle.law_messages.proofs.Known.{classed, inside, one_command}
 use Rattle.law_messages.proofs.PostsKept.{found_all, found_passes, known_live, live_is_open}
 use Rattle.law_messages.proofs.Requests.{IsTame}
 use Rattle.law_messages.proofs.TameTold as tame
 use Rattle.law_moves.proofs.Cases.{IsHosts}
 use Rattle.law_moves.proofs.CasesTold.{IsPlugWord, OwesTold, kept_told}
-use Rattle.law_moves.proofs.InputWords.{IsInputWord, input_words}
+use Rattle.law_moves.proofs.InputWords.{input_words}
 use Rattle.law_paths.specs.Tags.{HasTag, TagsFit}
 use Rattle.law_paths.proofs.Asks.{IsFree, IsNoAnswer, accept_asks, answer_asks, free_pass, may_put, named_asks, one_asks, unnamed_free}
 use Rattle.law_paths.proofs.DownCases.{named_most, named_within, unnamed}

@@ -13,7 +13,7 @@ use Rattle.mpt_rules.specs.declared.task.Task.{Task}
 use Rattle.mpt_rules.specs.Ioc.Replies.{outbox_of}
 use Rattle.mpt_rules.specs.World.State.{World, up_on}
 use Rattle.law_facts.specs.History.{History}
-use Rattle.law_facts.specs.Paths.{AbortWasTaken, BackStage, SaidStage, UpStage, stage_of}
+use Rattle.law_facts.specs.Paths.{BackStage, SaidStage, UpStage, stage_of}
 use Rattle.law_facts.specs.Words.{is_command_asked, slot}
 
 -- an open command under s is at this stage

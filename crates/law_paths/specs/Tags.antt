@@ -1,5 +1,5 @@
 -- A further fact, which no other gives: what the fabric tells of a task that ended without a result is of an identifier that there is.
-use Rattle.std.specs.Prelude.{ℕ, ◌≤◌, All}
+use Rattle.std.specs.Prelude.{◌≤◌, All}
 use Rattle.mpt_trace.specs.declared.item.Back.{Back}
 use Rattle.mpt_trace.specs.declared.item.Back.TheVariants as back
 use Rattle.mpt_rules.specs.World.Lines.{back_line}

@@ -3,4 +3,7 @@
 
 mod laws;
 
-pub use laws::{commands_walk, further_paths_are_kept, marks_are_kept, payloads_fit, replies_tell, stages_are_kept};
+pub use laws::{
+    commands_walk, further_paths_are_kept, marks_are_kept, payloads_fit, replies_tell,
+    stages_are_kept,
+};
