@@ -1,0 +1,3 @@
+-- Lemmas.
+mod NoMore
+mod Numbers

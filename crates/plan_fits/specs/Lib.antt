@@ -1,0 +1,3 @@
+-- What it is that a trace fits a plan.
+pub use Rattle.mpt_wire.specs.Fits.Plan
+pub mod Told
