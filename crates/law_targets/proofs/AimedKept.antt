@@ -5,16 +5,13 @@ use Rattle.std.specs.FinSet as finset
 use Rattle.std.specs.Ordering.{nat_cmp}
 use Rattle.std.proofs.lemmas.Bool.{eqb-true}
 use Rattle.scsi_disk.specs.Command.{fits}
-use Rattle.scsi_disk.specs.declared.command.Command.{Command}
 use Rattle.smid_pool.specs.Pool.{Free, Open, Parked, Slot, least_free}
 use Rattle.smid_pool.specs.declared.class.Class.TheVariants as class
-use Rattle.removal.specs.Handles.{IsHandle, ready_handle}
-use Rattle.removal.specs.declared.phase.Phase.{Phase}
-use Rattle.removal.specs.declared.phase.Phase.TheVariants as phase
+use Rattle.removal.specs.Handles.{ready_handle}
 use Rattle.mpt_wire.specs.Handles.Pages.{Paged, paged_next}
 use Rattle.mpt_wire.specs.Machine.Causes.{is_up}
 use Rattle.mpt_wire.specs.Machine.State.{OpenRequest, put_at}
-use Rattle.mpt_wire.specs.Messages.Fields.{dev_handle_in, smid_in}
+use Rattle.mpt_wire.specs.Messages.Fields.{dev_handle_in}
 use Rattle.mpt_wire.specs.Walks.Passes.{EachEntry, state_after}
 use Rattle.mpt_trace.specs.Command.{command_named}
 use Rattle.mpt_trace.specs.declared.command_form.CommandForm.{CommandForm}
@@ -22,53 +19,40 @@ use Rattle.mpt_trace.specs.declared.entry.Entry.{Entry}
 use Rattle.mpt_trace.specs.declared.entry.Entry.TheVariants as entry
 use Rattle.mpt_trace.specs.declared.input.Input.{Input}
 use Rattle.mpt_trace.specs.declared.input.Input.TheVariants as input
-use Rattle.mpt_trace.specs.declared.item.Down.{Down}
-use Rattle.mpt_trace.specs.declared.item.Down.TheVariants as down
-use Rattle.mpt_trace.specs.declared.item.Item.{Item}
 use Rattle.mpt_trace.specs.declared.item.Item.TheVariants as item
-use Rattle.mpt_trace.specs.declared.lane.LaneName.TheVariants as lane
-use Rattle.mpt_trace.specs.declared.refusal.Refusal.TheVariants as refusal
 use Rattle.mpt_trace.specs.declared.refusal.RefusedCall.TheVariants as call
 use Rattle.mpt_rules.specs.declared.at_fabric.AtFabric.{AtFabric}
 use Rattle.mpt_rules.specs.declared.post.Post.{Post}
-use Rattle.mpt_rules.specs.declared.request.Request.{Request}
 use Rattle.mpt_rules.specs.declared.request.Request.TheVariants as request
-use Rattle.mpt_rules.specs.Fabric.Calls as fab
 use Rattle.mpt_rules.specs.Host.Inputs as inputs
 use Rattle.mpt_rules.specs.Host.Parts.{Cmd, Host}
-use Rattle.mpt_rules.specs.Host.Posts.{command_asked, frame_asked}
-use Rattle.mpt_rules.specs.Host.Returns.{after_sent}
-use Rattle.mpt_rules.specs.Host.Takes.{hears_up, looks, stops}
 use Rattle.mpt_rules.specs.Ioc.Steps as step
 use Rattle.mpt_rules.specs.Ioc.Tables.{request_at}
 use Rattle.mpt_rules.specs.Ioc.Takes as adapter
 use Rattle.mpt_rules.specs.Law.{NothingIsStrange}
 use Rattle.mpt_rules.specs.World.Cases.{Case, by_host, entries, happens}
-use Rattle.mpt_rules.specs.World.Counts.{one_if, post_count, queued_count}
+use Rattle.mpt_rules.specs.World.Counts.{one_if}
 use Rattle.mpt_rules.specs.World.Inputs.{by_option, by_result, host_told}
-use Rattle.mpt_rules.specs.World.Lines.{down_line}
-use Rattle.mpt_rules.specs.World.State.{World, up_lane, up_on, with_up}
+use Rattle.mpt_rules.specs.World.State.{World}
 use Rattle.mpt_rules.proofs.Counts.{post_count-append}
 use Rattle.mpt_rules.proofs.HostCalls.{aborts_by, resets_target_by, submits_by}
 use Rattle.law_facts.specs.Clock.{is_live}
 use Rattle.law_facts.specs.Facts.{Facts}
-use Rattle.law_facts.specs.Handles.{Aimed, IsUnchosen, is_chosen, is_ready_at, phase_of}
+use Rattle.law_facts.specs.Handles.{Aimed, IsUnchosen, is_chosen, is_ready_at}
 use Rattle.law_facts.specs.History.{History, history_after}
 use Rattle.law_facts.specs.Messages.{CommandAt, CommandPost, PostIs, PostIsRecord, RequestIs}
 use Rattle.law_facts.specs.Words.{is_command, slot}
 use Rattle.law_messages.specs.Numbers.{AbortsAreAccepted}
 use Rattle.law_messages.proofs.Agreeing.{all_first, differ, none_posted, none_queued, not_both, same}
 use Rattle.law_messages.proofs.Keys.{get_inserted, get_other_inserted}
-use Rattle.law_messages.proofs.Leads.{Accepted, Accepts, Ends, Follow, Goes, Leads}
+use Rattle.law_messages.proofs.Leads.{Accepted, Accepts, Ends, Goes, Leads}
 use Rattle.law_messages.proofs.Requests.{IsNoAccept}
 use Rattle.law_messages.proofs.Shown.{leads}
 use Rattle.law_messages.proofs.TameTold as tame
-use Rattle.law_asked.proofs.Opened.{opened}
 use Rattle.law_lights.proofs.ClocksKept.{clocks_kept}
 use Rattle.law_moves.proofs.Cases.{IsHosts}
-use Rattle.law_moves.proofs.CasesTold.{IsPlugWord, OwesTold, kept_told}
+use Rattle.law_moves.proofs.CasesTold.{OwesTold, kept_told}
 use Rattle.law_returns.specs.Further.{FurtherFlights}
-use Rattle.law_returns.proofs.Whole.{flights_kept}
 use Rattle.law_targets.proofs.BoundKept as bound
 use Rattle.law_targets.proofs.HostAccepts.{taken_none, tame_none}
 use Rattle.law_targets.proofs.PostKinds.{command_post}

@@ -1,5 +1,5 @@
 -- A command on its way or at the fabric has the handle of the plug for which it was accepted, in the world behind any case.
-use Rattle.std.proofs.Common.{◌≡◌, ◌≢◌, ℕ, zero, suc, ◌+◌, ◌-◌, ◌≤◌, ◌==◌, ◌&&◌, ◌||◌, inl, inr, nat_le, not, Bool, true, false, if◌then◌else◌, List, [], ◌∷◌, ◌++◌, get_or, Option, Some, None, is_some, option_map, refl, ap, sym, ◌∙◌, subst, arith}
+use Rattle.std.proofs.Common.{◌≡◌, ℕ, zero, suc, ◌+◌, ◌-◌, ◌≤◌, ◌==◌, ◌&&◌, ◌||◌, not, Bool, true, false, if◌then◌else◌, List, [], ◌∷◌, ◌++◌, get_or, Option, Some, None, is_some, option_map, refl, ap, sym, ◌∙◌, subst, arith}
 use Rattle.std.specs.Prelude.{All}
 use Rattle.std.specs.FinMap as finmap
 use Rattle.std.specs.List.{list_any, position}
@@ -7,9 +7,9 @@ use Rattle.std.specs.Ordering.{nat_cmp}
 use Rattle.std.proofs.lemmas.Bool.{eqb-true}
 use Rattle.std.proofs.lemmas.List.Elements.{All-head}
 use Rattle.std.proofs.lemmas.List.Quantifiers.{position-Some}
-use Rattle.smid_pool.specs.Pool.{Free, Open, Parked, Slot}
+use Rattle.smid_pool.specs.Pool.{Open, Slot}
 use Rattle.mpi_rings.specs.declared.request_descriptor.PostKind.TheVariants as post
-use Rattle.removal.specs.Handles.{IsHandle, phase_at, ready_handle}
+use Rattle.removal.specs.Handles.{IsHandle}
 use Rattle.removal.specs.Phases.{is_ready_at}
 use Rattle.removal.specs.declared.phase.Phase.{Phase}
 use Rattle.removal.specs.declared.phase.Phase.TheVariants as phase
@@ -42,24 +42,23 @@ use Rattle.law_facts.specs.Disks.{ReadyFits}
 use Rattle.law_facts.specs.Facts.{Facts}
 use Rattle.law_facts.specs.Handles.{BoundToTarget, IsLetGo, is_remove_post, is_remove_request, is_reset_done, is_under_way, phase_of, removes, uses_handle}
 use Rattle.law_facts.specs.History.{History, history_after}
-use Rattle.law_facts.specs.Messages.{CommandAt, CommandPost, KeptIs, PostIsRecord, RequestIs}
+use Rattle.law_facts.specs.Messages.{CommandAt, KeptIs, PostIsRecord, RequestIs}
 use Rattle.law_facts.specs.Words.{behind, is_command, is_load, slot}
 use Rattle.law_handles.proofs.ServingWorld.{bare}
 use Rattle.law_lights.proofs.Ones.{normal_few}
 use Rattle.law_messages.specs.Numbers.{AbortsAreAccepted}
 use Rattle.law_messages.proofs.Agreeing.{differ, not_both, same}
 use Rattle.law_messages.proofs.Keys.{get_inserted, get_other_inserted}
-use Rattle.law_messages.proofs.Leads.{Accepted, Accepts, Ends, Follow, Goes, Leads}
+use Rattle.law_messages.proofs.Leads.{Accepted, Accepts, Ends, Goes, Leads}
 use Rattle.law_messages.proofs.Requests.{accepted_requests}
 use Rattle.law_messages.proofs.Shown.{leads}
-use Rattle.law_asked.proofs.Opened.{CommandOpened, opened}
+use Rattle.law_asked.proofs.Opened.{opened}
 use Rattle.law_moves.proofs.Counted.{behind-cons, fewer_pass, how_many-cons}
 use Rattle.law_returns.specs.Further.{FurtherFlights}
 use Rattle.law_returns.proofs.Whole.{flights_kept}
 use Rattle.law_targets.proofs.PostKinds.{IsOther, IsRemoval, Kinds, kinds, normal_all}
 use Rattle.law_targets.proofs.Stays.{bound_stays}
 use Rattle.law_targets.proofs.Under.{keeps_bound, used, used_before}
-use Rattle.law_targets.proofs.Working.{working}
 
 -- ---- under way, and used
 

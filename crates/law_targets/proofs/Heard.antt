@@ -1,14 +1,8 @@
 -- What entries tell of handles: which were added, of which disks the host has a page, and what a reply has of these.
-use Rattle.std.proofs.Common.{◌≡◌, ◌≢◌, ℕ, zero, suc, ◌+◌, ◌-◌, ◌<◌, ◌≤◌, ◌==◌, ◌&&◌, ◌||◌, ◌⊎◌, inl, inr, cond, not, nat_lt, Bool, true, false, if◌then◌else◌, List, [], ◌∷◌, ◌++◌, length, get_or, map, replicate, Option, Some, None, is_none, is_some, unwrap_or, option_map, refl, ap, sym, ◌∙◌, subst, arith}
-use Rattle.std.specs.Prelude.{All}
-use Rattle.std.specs.List.{find, list_any}
+use Rattle.std.proofs.Common.{◌≡◌, ℕ, zero, suc, ◌==◌, ◌&&◌, nat_lt, Bool, true, false, if◌then◌else◌, List, [], ◌∷◌, ◌++◌, length, get_or, Option, Some, None, is_none, is_some, option_map, refl, ap, sym, ◌∙◌, subst, arith}
+use Rattle.std.specs.List.{find}
 use Rattle.std.proofs.lemmas.Bool.{eqb-true}
-use Rattle.std.proofs.lemmas.List.Elements.{All-head}
-use Rattle.smid_pool.specs.Pool.{Free, Open, Parked, Slot, record_of, slot_of}
-use Rattle.removal.specs.Handles.{IsHandle, all_absent, phase_at, with_phase}
-use Rattle.removal.specs.Phases.{after_page}
 use Rattle.removal.specs.declared.phase.Phase.{Phase}
-use Rattle.removal.specs.declared.phase.Phase.TheVariants as phase
 use Rattle.mpi_layout.specs.Rows.{breaks, field, first_fault}
 use Rattle.mpi_layout.proofs.Obeyed.{obeyed_row}
 use Rattle.config_pages.specs.ConfigReply.{config_reply_layout, config_reply_values}
@@ -16,75 +10,33 @@ use Rattle.config_pages.specs.DevicePage0.{device_page0_layout}
 use Rattle.event_msgs.specs.EventReply.{event_reply_layout, event_reply_values}
 use Rattle.event_msgs.specs.Topology.{topology_layout, topology_values}
 use Rattle.event_msgs.specs.TopologyEntry.{topology_entry_layout, topology_entry_values}
-use Rattle.mpt_messages.specs.Function.{byte_of}
 use Rattle.mpt_messages.specs.IocFrames.{reply_frame}
-use Rattle.mpt_messages.specs.declared.function.Function.TheVariants as function
 use Rattle.mpt_messages.specs.declared.ioc_reply.IocReply.TheVariants as reply
-use Rattle.mpt_wire.specs.Handles.Names.{Disk, changes_told, is_device_page, page_carried}
-use Rattle.mpt_wire.specs.Handles.Pages.{Paged, is_gone_change, no_pages, paged_next, pages_taken, with_page, without_pages}
-use Rattle.mpt_wire.specs.Machine.Causes.{is_resetting, is_up}
-use Rattle.mpt_wire.specs.Machine.SoFar.{SoFar, after_entry, after_put, announced_after, announced_next, changes_of_item}
-use Rattle.mpt_wire.specs.Machine.State.{put_at}
+use Rattle.mpt_wire.specs.Handles.Names.{changes_told, is_device_page}
+use Rattle.mpt_wire.specs.Handles.Pages.{Paged, no_pages, paged_next, pages_taken}
+use Rattle.mpt_wire.specs.Machine.SoFar.{SoFar, after_entry, after_put, announced_after}
 use Rattle.mpt_wire.specs.Machine.View.{Seen, seen_next}
-use Rattle.mpt_wire.specs.Messages.Fields.{Change, changes_from, changes_in, event_context_in, event_in, function_in, page_dev_handle_in, page_sas_address_in, smid_in}
+use Rattle.mpt_wire.specs.Messages.Fields.{Change, changes_from, changes_in, function_in}
 use Rattle.mpt_wire.specs.Walks.Ahead.{next_own, state_ahead}
 use Rattle.mpt_wire.specs.Walks.Passes.{EachEntry, state_after}
 use Rattle.mpt_trace.specs.declared.entry.Entry.{Entry}
 use Rattle.mpt_trace.specs.declared.entry.Entry.TheVariants as entry
-use Rattle.mpt_trace.specs.declared.host_state.HostState.{HostState}
-use Rattle.mpt_trace.specs.declared.host_state.HostState.TheVariants as state
 use Rattle.mpt_trace.specs.declared.item.Down.TheVariants as down
 use Rattle.mpt_trace.specs.declared.item.Item.{Item}
 use Rattle.mpt_trace.specs.declared.item.Item.TheVariants as item
 use Rattle.mpt_trace.specs.declared.item.Up.{Up}
-use Rattle.mpt_trace.specs.declared.item.Up.TheVariants as upward
 use Rattle.mpt_trace.specs.declared.lane.LaneName.{LaneName}
 use Rattle.mpt_trace.specs.declared.lane.LaneName.TheVariants as lane
-use Rattle.mpt_rules.specs.declared.request.Request.{Request}
-use Rattle.mpt_rules.specs.declared.request.Request.TheVariants as request
-use Rattle.mpt_rules.specs.declared.said.Said.{Said}
-use Rattle.mpt_rules.specs.declared.said.Said.TheVariants as said
 use Rattle.mpt_rules.specs.declared.status.TheConstants.{IOC_STATUS_CONFIG_INVALID_PAGE, IOC_STATUS_SUCCESS}
-use Rattle.mpt_rules.specs.declared.why.Why.{Why}
-use Rattle.mpt_rules.specs.declared.why.Why.TheVariants as why
-use Rattle.mpt_rules.specs.Fabric.Calls as fab
-use Rattle.mpt_rules.specs.Host.Handshakes.{where_true}
-use Rattle.mpt_rules.specs.Host.Parts.{Host}
-use Rattle.mpt_rules.specs.Host.Posts as asks
-use Rattle.mpt_rules.specs.Host.Removal as removal
 use Rattle.mpt_rules.specs.Host.Replies as replies
-use Rattle.mpt_rules.specs.Host.Resets as resets
-use Rattle.mpt_rules.specs.Host.Returns.{after_sent}
-use Rattle.mpt_rules.specs.Host.Strange as strange
-use Rattle.mpt_rules.specs.Host.Strange.{why_strange}
-use Rattle.mpt_rules.specs.Host.Takes.{hears_up, is_starting, looks, stops}
-use Rattle.mpt_rules.specs.Ioc.Replies.{outbox_of}
-use Rattle.mpt_rules.specs.Ioc.Steps as step
-use Rattle.mpt_rules.specs.Ioc.Takes as adapter
-use Rattle.mpt_rules.specs.Law.{NothingIsStrange}
-use Rattle.mpt_rules.specs.Outcome.{Happening}
-use Rattle.mpt_rules.specs.World.Cases.{Case, entries, happens}
-use Rattle.mpt_rules.specs.World.Counts.{how_many, one_if}
-use Rattle.mpt_rules.specs.World.Inputs.{host_told}
-use Rattle.mpt_rules.specs.World.Lines.{said_of, said_reply, up_line}
-use Rattle.mpt_rules.specs.World.State.{World, up_lane, up_on, with_up}
-use Rattle.law_facts.specs.Clock.{in_begun, in_normal, is_live}
-use Rattle.law_facts.specs.Facts.{Facts}
-use Rattle.law_facts.specs.Handles.{RefusalIsLate, before_gone, is_announced, is_ready_at, is_refusal_of, phase_of, tells_gone}
-use Rattle.law_facts.specs.History.{History, history_after, seen_after}
-use Rattle.law_facts.specs.Messages.{AnswersBy, IsPageReply, SaidIs, event_like}
-use Rattle.law_facts.specs.Words.{is_off, is_reply, slot}
-use Rattle.law_handles.proofs.HostSays.{EndsReset, ends_reset_told, told_input, told_reply_to}
+use Rattle.mpt_rules.specs.World.State.{up_lane}
+use Rattle.law_facts.specs.Messages.{event_like}
 use Rattle.law_handles.proofs.Silent.{IsTold}
-use Rattle.law_flights.proofs.IocTold.{told_back, told_down, told_high, told_normal}
 use Rattle.law_flights.proofs.Told as flights
-use Rattle.law_messages.proofs.Agreeing.{all_first, not_both, same}
-use Rattle.law_moves.proofs.CasesTold.{IsPlugWord, OwesTold, kept_told}
-use Rattle.law_moves.proofs.Counted.{how_many-cons}
-use Rattle.law_moves.proofs.HostGoes.{no_where, none_of_or}
+use Rattle.law_messages.proofs.Agreeing.{not_both}
+use Rattle.law_moves.proofs.CasesTold.{IsPlugWord}
 use Rattle.law_targets.specs.Targets.{KnownAs}
-use Rattle.law_targets.proofs.Views as view
-use Rattle.law_targets.proofs.Views.{Hears, Like, Over, Stays, announced_is, ready_is, ready_of, seen_as, seen_by_status}
+use Rattle.law_targets.proofs.Views.{announced_is, ready_is, ready_of, seen_as}
 
 -- ---- what a handle is known as, over what is seen of its phase
 

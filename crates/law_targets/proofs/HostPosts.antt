@@ -1,5 +1,5 @@
 -- In no call does the host make a post of an identifier that is open then and was before.
-use Rattle.std.proofs.Common.{◌≡◌, ◌≢◌, ℕ, ◌+◌, ◌≤◌, ◌==◌, ◌&&◌, ◌||◌, Bool, true, false, List, [], ◌∷◌, ◌++◌, Option, Some, None, refl, ap, sym, ◌∙◌, subst, arith}
+use Rattle.std.proofs.Common.{◌≡◌, ◌≢◌, ℕ, ◌≤◌, ◌==◌, ◌&&◌, ◌||◌, Bool, true, false, List, [], ◌∷◌, Option, None, refl, ap, ◌∙◌, arith}
 use Rattle.std.specs.FinMap as finmap
 use Rattle.std.specs.List.{list_any}
 use Rattle.std.proofs.lemmas.Bool.{eqb-true}
@@ -8,7 +8,7 @@ use Rattle.smid_pool.specs.Pool.{Open, is_open, record_of, slot_of}
 use Rattle.mpi_doorbell.specs.declared.state.IocState.{IocState}
 use Rattle.mpi_doorbell.specs.declared.state.IocState.TheVariants as ioc_state
 use Rattle.mpt_wire.specs.Machine.Causes.{is_resetting}
-use Rattle.mpt_wire.specs.Messages.Fields.{frame_address_in, smid_in}
+use Rattle.mpt_wire.specs.Messages.Fields.{smid_in}
 use Rattle.mpt_wire.specs.Walks.Cycles.{is_reset_end}
 use Rattle.mpt_trace.specs.declared.entry.Entry.{Entry}
 use Rattle.mpt_trace.specs.declared.entry.Entry.TheVariants as entry
@@ -19,17 +19,14 @@ use Rattle.mpt_rules.specs.declared.request.Request.{Request}
 use Rattle.mpt_rules.specs.declared.request.Request.TheVariants as request
 use Rattle.mpt_rules.specs.Host.Parts.{Host, host_queue_count}
 use Rattle.mpt_rules.specs.Host.Replies as replies
-use Rattle.mpt_rules.specs.Host.Resets as resets
-use Rattle.mpt_rules.specs.Host.Returns as returns
 use Rattle.mpt_rules.specs.Host.Takes.{hears_up, looks, stops}
-use Rattle.mpt_rules.specs.Host.Values as values
 use Rattle.mpt_rules.specs.Ioc.Parts.{state_of}
 use Rattle.mpt_rules.specs.Ioc.Tables.{is_operational, is_ready}
 use Rattle.mpt_rules.specs.Law.{NothingIsStrange}
 use Rattle.mpt_rules.specs.World.Counts.{one_if, post_count}
 use Rattle.mpt_rules.specs.World.Inputs.{host_told}
 use Rattle.mpt_rules.specs.World.State.{World, up_on}
-use Rattle.law_facts.specs.Clock.{in_begun, is_linked_up, is_live}
+use Rattle.law_facts.specs.Clock.{in_begun, is_live}
 use Rattle.law_facts.specs.Facts.{Facts}
 use Rattle.law_facts.specs.History.{History}
 use Rattle.law_facts.specs.Words.{slot}

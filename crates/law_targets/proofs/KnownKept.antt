@@ -7,21 +7,20 @@ use Rattle.std.specs.Option.{option_or}
 use Rattle.std.proofs.lemmas.Bool.{eqb-true}
 use Rattle.std.proofs.lemmas.List.Elements.{All-head}
 use Rattle.smid_pool.specs.Pool.{Free, Open, Parked, Slot, is_open, record_of, slot_of}
-use Rattle.removal.specs.Handles.{IsHandle, all_absent, phase_at, with_phase}
+use Rattle.removal.specs.Handles.{IsHandle, phase_at, with_phase}
 use Rattle.removal.specs.Phases.{after_page}
 use Rattle.removal.specs.declared.phase.Phase.{Phase}
 use Rattle.removal.specs.declared.phase.Phase.TheVariants as phase
 use Rattle.mpi_layout.specs.Rows.{field}
 use Rattle.mpt_messages.specs.Function.{byte_of}
 use Rattle.mpt_wire.specs.Handles.Names.{Disk, changes_told, is_device_page, page_carried}
-use Rattle.mpt_wire.specs.Handles.Pages.{Paged, is_gone_change, no_pages, paged_next, pages_taken, with_page, without_pages}
+use Rattle.mpt_wire.specs.Handles.Pages.{is_gone_change, pages_taken, with_page, without_pages}
 use Rattle.mpt_wire.specs.Machine.Causes.{is_resetting, is_up}
 use Rattle.mpt_wire.specs.Machine.SoFar.{announced_after, announced_next}
 use Rattle.mpt_wire.specs.Machine.State.{put_at}
-use Rattle.mpt_wire.specs.Machine.View.{Seen, seen_next}
-use Rattle.mpt_wire.specs.Messages.Fields.{Change, changes_in, event_context_in, event_in, function_in, page_dev_handle_in, page_sas_address_in, smid_in}
-use Rattle.mpt_wire.specs.Walks.Ahead.{state_ahead}
-use Rattle.mpt_wire.specs.Walks.Passes.{EachEntry, state_after}
+use Rattle.mpt_wire.specs.Machine.View.{Seen}
+use Rattle.mpt_wire.specs.Messages.Fields.{changes_in, event_context_in, event_in, function_in, page_dev_handle_in, page_sas_address_in, smid_in}
+use Rattle.mpt_wire.specs.Walks.Passes.{EachEntry}
 use Rattle.mpt_trace.specs.declared.entry.Entry.{Entry}
 use Rattle.mpt_trace.specs.declared.entry.Entry.TheVariants as entry
 use Rattle.mpt_trace.specs.declared.host_state.HostState.{HostState}
@@ -35,10 +34,8 @@ use Rattle.mpt_rules.specs.declared.request.Request.TheVariants as request
 use Rattle.mpt_rules.specs.declared.said.Said.{Said}
 use Rattle.mpt_rules.specs.declared.said.Said.TheVariants as said
 use Rattle.mpt_rules.specs.declared.status.TheConstants.{IOC_STATUS_SUCCESS}
-use Rattle.mpt_rules.specs.declared.why.Why.{Why}
 use Rattle.mpt_rules.specs.declared.why.Why.TheVariants as why
 use Rattle.mpt_rules.specs.Fabric.Calls as fab
-use Rattle.mpt_rules.specs.Host.Handshakes.{where_true}
 use Rattle.mpt_rules.specs.Host.Parts.{Host}
 use Rattle.mpt_rules.specs.Host.Posts as asks
 use Rattle.mpt_rules.specs.Host.Removal as removal
@@ -64,13 +61,13 @@ use Rattle.law_facts.specs.Handles.{PageIs, RefusalIsLate, before_gone, is_annou
 use Rattle.law_facts.specs.History.{History, first_history, history_after}
 use Rattle.law_facts.specs.Messages.{AnswersBy, IsPageReply, SaidIs, event_like}
 use Rattle.law_facts.specs.Words.{is_off, is_reply, slot}
-use Rattle.law_handles.proofs.HostSays.{EndsReset, ends_reset_told, told_input, told_reply_to}
+use Rattle.law_handles.proofs.HostSays.{ends_reset_told, told_input, told_reply_to}
 use Rattle.law_flights.proofs.IocTold.{told_back, told_down, told_high, told_normal}
 use Rattle.law_messages.proofs.Agreeing.{not_both, same}
 use Rattle.law_moves.proofs.CasesTold.{OwesTold, kept_told}
 use Rattle.law_moves.proofs.Counted.{how_many-cons}
 use Rattle.law_moves.proofs.HostGoes.{no_where, none_of_or}
-use Rattle.law_targets.specs.Targets.{HandlesKnown, KnownAs, OffHostsKnown, PagesKnown}
+use Rattle.law_targets.specs.Targets.{KnownAs, OffHostsKnown, PagesKnown}
 use Rattle.law_targets.proofs.Heard as trace
 use Rattle.law_targets.proofs.Heard.{Dull, Known, change_of, heard, known_as, known_of}
 use Rattle.law_targets.proofs.PostKinds.{fits}
@@ -330,8 +327,8 @@ module _ (w : World) (h : History) (f : Facts w h) (plain : NothingIsStrange w) 
     same_seen : (o : Option Request) → (smid_in d == 0) ≡ false → page_carried x ≡ None → Views w.host.phases (replies.hears_reply_to h1 (smid_in d) o v).part.phases → Knows1 o
     same_seen o e c k =
         from o (λ g i.
-            let b = before m g i in
-            subst (λ q. Known q (heard queue h.so_far.announced x g) (pages_taken h.paged.pages x g)) (sym (k.same g i)) (nothing_heard e g ∙ b.0, λ a. no_page_taken e c g a ∙ b.1 a))
+        let b = before m g i in
+        subst (λ q. Known q (heard queue h.so_far.announced x g) (pages_taken h.paged.pages x g)) (sym (k.same g i)) (nothing_heard e g ∙ b.0, λ a. no_page_taken e c g a ∙ b.1 a))
 
     positive : (r : Request) → slot w.host (smid_in d) ≡ Open r → (smid_in d == 0) ≡ false
     positive r o = by_smid (smid_in d) o
@@ -425,8 +422,8 @@ module _ (w : World) (h : History) (f : Facts w h) (plain : NothingIsStrange w) 
       refused : page_carried x ≡ None → seen_as after ≡ seen_as (phase_of w g0) → Knows1 (Some (request.Page g0))
       refused c e =
           from (Some (request.Page g0)) (λ j i.
-              let b = before m j i in
-              subst (λ q. Known q (heard queue h.so_far.announced x j) (pages_taken h.paged.pages x j)) (sym (seen_after_page j i ∙ by_key j (j == g0) refl)) (nothing_heard (positive (request.Page g0) o) j ∙ b.0, λ a. no_page_taken (positive (request.Page g0) o) c j a ∙ b.1 a))
+          let b = before m j i in
+          subst (λ q. Known q (heard queue h.so_far.announced x j) (pages_taken h.paged.pages x j)) (sym (seen_after_page j i ∙ by_key j (j == g0) refl)) (nothing_heard (positive (request.Page g0) o) j ∙ b.0, λ a. no_page_taken (positive (request.Page g0) o) c j a ∙ b.1 a))
         where
           by_key : (j : ℕ) (b : Bool) → (j == g0) ≡ b → cond (j == g0) (seen_as after) (seen_as (phase_of w j)) ≡ seen_as (phase_of w j)
           by_key j true t = ap (λ k. cond k (seen_as after) (seen_as (phase_of w j))) t ∙ (e ∙ ap (λ k. seen_as (phase_of w k)) (sym (eqb-true j g0 t)))
@@ -455,9 +452,10 @@ module _ (w : World) (h : History) (f : Facts w h) (plain : NothingIsStrange w) 
                 let k = before m g0 disk in
                 let e = eqb-true j g0 t in
                 let r : seen_as (phase_of w g0) ≡ Some None = ap seen_as was in
-                subst (λ q. Known q (heard queue h.so_far.announced x j) (pages_taken h.paged.pages x j)) (sym (seen_after_page j i ∙ (ap (λ y. cond y (seen_as after) (seen_as (phase_of w j))) t ∙ now)))
-                (nothing_heard (positive (request.Page g0) o) j ∙ (ap h.so_far.announced e ∙ (k.0 ∙ ap is_some r)),
-                λ b. taken j b ∙ (ap (λ y. if y then (if b == a then true else h.paged.pages g0 b) else h.paged.pages j b) t ∙ by_address b (b == a) refl (k.1 b ∙ ap (ready_of b) r)))
+                subst (λ q. Known q (heard queue h.so_far.announced x j) (pages_taken h.paged.pages x j)) (sym (seen_after_page j i ∙ (ap (λ y. cond y (seen_as after) (seen_as (phase_of w j))) t ∙ now))) (
+                  nothing_heard (positive (request.Page g0) o) j ∙ (ap h.so_far.announced e ∙ (k.0 ∙ ap is_some r)),
+                  λ b. taken j b ∙ (ap (λ y. if y then (if b == a then true else h.paged.pages g0 b) else h.paged.pages j b) t ∙ by_address b (b == a) refl (k.1 b ∙ ap (ready_of b) r)),
+                )
               where
                 by_address : (b : ℕ) (c : Bool) → (b == a) ≡ c → h.paged.pages g0 b ≡ false → (if b == a then true else h.paged.pages g0 b) ≡ (a == b)
                 by_address b true t e = ap (λ y. if y then true else h.paged.pages g0 b) t ∙ sym (flipped b a true t)
@@ -523,8 +521,8 @@ module _ (w : World) (h : History) (f : Facts w h) (plain : NothingIsStrange w) 
                   let was : phase_of w g0 ≡ phase.Reading (smid_in d) = ap (phase_of w) (sym k.2) ∙ (p k.1).1 normal in
                   let r : replies.address_read (replies.reply_bytes v) page ≡ Some (page_sas_address_in page) = ap (λ y. replies.address_read (unwrap_or y []) page) e ∙ ap (λ y. if y then Some (page_sas_address_in page) else None) t in
                   let n : seen_as after ≡ Some (Some (page_sas_address_in page)) =
-                      ap (λ y. seen_as (after_page (phase_at h1.phases g0) (smid_in d) y)) r ∙ (ap (λ y. seen_as (after_page (phase_at y g0) (smid_in d) (Some (page_sas_address_in page)))) like.phases
-                      ∙ (ap (λ y. seen_as (after_page y (smid_in d) (Some (page_sas_address_in page)))) was ∙ ap (λ y. seen_as (if y then phase.Ready (page_sas_address_in page) else phase.Reading (smid_in d))) (same (smid_in d)))) in
+                  ap (λ y. seen_as (after_page (phase_at h1.phases g0) (smid_in d) y)) r ∙ (ap (λ y. seen_as (after_page (phase_at y g0) (smid_in d) (Some (page_sas_address_in page)))) like.phases
+                  ∙ (ap (λ y. seen_as (after_page y (smid_in d) (Some (page_sas_address_in page)))) was ∙ ap (λ y. seen_as (if y then phase.Ready (page_sas_address_in page) else phase.Reading (smid_in d))) (same (smid_in d)))) in
                   read (page_sas_address_in page) c was n
 
     -- ---- an event
@@ -578,7 +576,7 @@ module _ (w : World) (h : History) (f : Facts w h) (plain : NothingIsStrange w) 
           ∙ (ap (λ k. seen_as (phase_at (removal.hears_event h1 (unwrap_or k [])).part.phases j)) framed
           ∙ (ap (λ k. seen_as (phase_at (removal.hears_changes h2 k).part.phases j)) changes_is
           ∙ (view.changed h2 (field g 0x28 2) disk2 (ap length phases2 ∙ f.flights.sizes.phases) (record { handle = field g 0x28 2; status = status_of added }) refl (by_added added)
-              (λ e. ap (λ k. removal.is_absent (phase_at k (field g 0x28 2))) phases2 ∙ absent e) j i
+          (λ e. ap (λ k. removal.is_absent (phase_at k (field g 0x28 2))) phases2 ∙ absent e) j i
           ∙ ap (λ k. cond (j == field g 0x28 2) (seen_by_status (status_of added) (seen_as (phase_at k (field g 0x28 2)))) (seen_as (phase_at k j))) phases2)))
         where
           by_added : (b : Bool) → ((status_of b) ≡ 1) ⊎ ((status_of b) ≡ 2)

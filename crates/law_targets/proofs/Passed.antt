@@ -1,6 +1,6 @@
 -- The entries of a case pass the rules of tasks and of pages: a task goes to the address to which the handle of its post is bound, and a page has the
 -- address of its handle.
-use Rattle.std.proofs.Common.{◌≡◌, ℕ, zero, suc, ◌+◌, ◌≤◌, ◌<◌, ◌==◌, ◌&&◌, nat_le, if◌then◌else◌, Bool, true, false, List, [], ◌∷◌, ◌++◌, length, map, Option, Some, None, slice_get, option_map, refl, ap, sym, ◌∙◌, subst, arith}
+use Rattle.std.proofs.Common.{◌≡◌, ℕ, zero, suc, ◌==◌, ◌&&◌, nat_le, if◌then◌else◌, Bool, true, false, List, [], ◌∷◌, length, map, Option, Some, None, slice_get, option_map, refl, ap, sym, ◌∙◌, subst, arith}
 use Rattle.std.specs.Prelude.{All}
 use Rattle.std.specs.FinMap as finmap
 use Rattle.std.specs.Bool.{then_some}
@@ -12,12 +12,11 @@ use Rattle.scsi_disk.specs.declared.scsi_result.ScsiResult.{ScsiResult}
 use Rattle.scsi_disk.specs.declared.scsi_result.TheConstants.{GOOD}
 use Rattle.scsi_msgs.specs.ScsiReply.{scsi_reply_layout, scsi_reply_values}
 use Rattle.smid_pool.specs.Pool.{Free, Open, Parked, Slot}
-use Rattle.removal.specs.Handles.{IsHandle}
 use Rattle.mpt_messages.specs.IocFrames.{reply_frame}
 use Rattle.mpt_messages.specs.declared.ioc_reply.IocReply.TheVariants as reply
 use Rattle.mpt_wire.specs.Handles.Bindings.{Plug, bound_next}
 use Rattle.mpt_wire.specs.Machine.State.{OpenRequest}
-use Rattle.mpt_wire.specs.Handles.Names.{Disk, is_device_page, page_carried}
+use Rattle.mpt_wire.specs.Handles.Names.{is_device_page}
 use Rattle.mpt_wire.specs.Handles.Pages.{IsPageOfBinding, PageAsks, address_of}
 use Rattle.mpt_wire.specs.Handles.Tasks.{Aiming, IsAt, TaskAsks, aiming_next}
 use Rattle.mpt_wire.specs.Messages.Fields.{address_descriptor, function_in, page_dev_handle_in, page_sas_address_in, reply_frame_address, success_descriptor}
@@ -35,10 +34,8 @@ use Rattle.mpt_rules.specs.declared.request.Request.{Request}
 use Rattle.mpt_rules.specs.declared.request.Request.TheVariants as request
 use Rattle.mpt_rules.specs.declared.said.Said.{Said}
 use Rattle.mpt_rules.specs.declared.said.Said.TheVariants as said
-use Rattle.mpt_rules.specs.Fabric.Calls as fab
 use Rattle.mpt_rules.specs.Host.Parts.{Cmd}
-use Rattle.mpt_rules.specs.Host.Returns.{after_sent}
-use Rattle.mpt_rules.specs.Host.Takes.{hears_up, looks, stops}
+use Rattle.mpt_rules.specs.Host.Takes.{hears_up}
 use Rattle.mpt_rules.specs.Ioc.Commands.{moved_by, result_status, written_by}
 use Rattle.mpt_rules.specs.Ioc.Replies.{outbox_of}
 use Rattle.mpt_rules.specs.Ioc.Sending.{up_of}
@@ -46,13 +43,12 @@ use Rattle.mpt_rules.specs.Ioc.Steps as step
 use Rattle.mpt_rules.specs.Ioc.Tables.{request_at}
 use Rattle.mpt_rules.specs.Ioc.Takes as adapter
 use Rattle.mpt_rules.specs.Law.{NothingIsStrange}
-use Rattle.mpt_rules.specs.World.Cases.{Case, entries, happens}
-use Rattle.mpt_rules.specs.World.Counts.{how_many, one_if, post_count}
+use Rattle.mpt_rules.specs.World.Cases.{Case, entries}
+use Rattle.mpt_rules.specs.World.Counts.{how_many, one_if}
 use Rattle.mpt_rules.specs.World.FabricCounts.{is_task_of, sent_task_count}
 use Rattle.mpt_rules.specs.World.Inputs.{host_told}
-use Rattle.mpt_rules.specs.World.Lines.{down_line, out_line, said_of, up_line}
-use Rattle.mpt_rules.specs.World.State.{World, up_lane, up_on, with_up}
-use Rattle.mpt_rules.proofs.Counts.{post_count-append}
+use Rattle.mpt_rules.specs.World.Lines.{said_of}
+use Rattle.mpt_rules.specs.World.State.{World, up_lane, up_on}
 use Rattle.mpt_rules.proofs.FabricCounts.{sent_task_count-append, sent_task_count-cons}
 use Rattle.law_facts.specs.Clock.{is_live}
 use Rattle.law_facts.specs.Facts.{Facts}
@@ -72,7 +68,6 @@ use Rattle.law_moves.proofs.Counted.{how_many-cons, true_by_one}
 use Rattle.law_targets.specs.Targets.{NoOrdersBeforeInit}
 use Rattle.law_targets.proofs.BoundKept.{under_of}
 use Rattle.law_targets.proofs.Heard.{config_of, no_page}
-use Rattle.law_targets.proofs.Under.{used}
 
 -- ---- entries that put nothing
 
@@ -177,7 +172,6 @@ page_above w h queue s frame page sense e q = by_smid s e
     by_smid zero a = absurd (q a.0)
     by_smid (suc n) a = by_slot (suc n) (slot w.host (suc n)) a
 
-
 module _ (w : World) (h : History) (f : Facts w h) (plain : NothingIsStrange w) (orders : NoOrdersBeforeInit w) where
   record Rules (t : List Entry) : Type 0 where
     tasks : Passes aiming_next TaskAsks h.aiming t
@@ -225,11 +219,11 @@ module _ (w : World) (h : History) (f : Facts w h) (plain : NothingIsStrange w) 
           let one = ap one_if k in
           let smid = z.smid in
           let handle : h.aiming.handle tag ≡ Some z.cmd.handle =
-              subst (λ j. h.aiming.handle j ≡ Some z.cmd.handle) z.smid
-              ((f.handles.aimed l.number).handle z.cmd z.named (let one2 : one_if (is_command (request_at w.ioc z.cmd.smid)) ≡ 1 = ap (λ j. one_if (is_command (request_at w.ioc j))) z.smid ∙ one in omega (arith, one2))) in
+          subst (λ j. h.aiming.handle j ≡ Some z.cmd.handle) z.smid
+          ((f.handles.aimed l.number).handle z.cmd z.named (let one2 : one_if (is_command (request_at w.ioc z.cmd.smid)) ≡ 1 = ap (λ j. one_if (is_command (request_at w.ioc j))) z.smid ∙ one in omega (arith, one2))) in
           let under = under_of w h f l.number tag o (omega (arith, one)) in
           let bound : h.serving.bound z.cmd.handle ≡ Some (record { address = z.request.address; number = z.request.plug }) =
-              f.handles.bound l.number z.cmd z.request live z.named z.asked (subst (λ j. Rattle.law_facts.specs.Handles.is_under_way w j ≡ true) (sym z.smid) under) in
+          f.handles.bound l.number z.cmd z.request live z.named z.asked (subst (λ j. Rattle.law_facts.specs.Handles.is_under_way w j ≡ true) (sym z.smid) under) in
           let aimed : h.aiming.bound z.cmd.handle ≡ Some (record { address = z.request.address; number = z.request.plug }) = (f.handles.each z.cmd.handle (f.limits.cmds l.number z.cmd z.named)).binds.aimed ∙ bound in
           let known : Some l ≡ Some (record { number = l.number; address = z.request.address; command = z.request.command }) = sym q ∙ z.live in
           let where_to : l.address ≡ z.request.address = ap_address l (record { number = l.number; address = z.request.address; command = z.request.command }) known in

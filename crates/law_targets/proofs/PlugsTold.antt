@@ -1,9 +1,8 @@
 -- The last plug that was told of a handle is the one to which it is bound, whatever is entered.
 use Rattle.std.proofs.Common.{◌≡◌, ℕ, ◌==◌, Bool, true, false, if◌then◌else◌, List, [], ◌∷◌, ◌++◌, Option, Some, None, refl, ap, sym, ◌∙◌, subst}
-use Rattle.removal.specs.Handles.{IsHandle}
 use Rattle.mpt_wire.specs.Handles.Bindings.{Plug, bound_next}
 use Rattle.mpt_wire.specs.Handles.Plugs.{Serving, served_next}
-use Rattle.mpt_wire.specs.Machine.SoFar.{SoFar, after_entry, after_put, so_far_next}
+use Rattle.mpt_wire.specs.Machine.SoFar.{SoFar, after_entry, after_put}
 use Rattle.mpt_wire.specs.Machine.View.{Seen, seen_next}
 use Rattle.mpt_wire.specs.Walks.Ahead.{next_own, state_ahead}
 use Rattle.mpt_wire.specs.Walks.Passes.{state_after}

@@ -4,7 +4,7 @@ use Rattle.std.specs.Prelude.{All}
 use Rattle.std.specs.FinMap as finmap
 use Rattle.std.proofs.lemmas.Bool.{eqb-true}
 use Rattle.std.proofs.lemmas.List.Elements.{All-get_or, All-head, All-tail}
-use Rattle.smid_pool.specs.Pool.{Free, Open, Parked, Slot, slot_of}
+use Rattle.smid_pool.specs.Pool.{Free, Open, Parked, Slot}
 use Rattle.removal.specs.Handles.{IsHandle}
 use Rattle.mpi_rings.specs.declared.request_descriptor.PostKind.TheVariants as post
 use Rattle.config_pages.specs.ConfigAsk.{config_ask_layout, config_ask_values}
@@ -17,7 +17,7 @@ use Rattle.mpt_messages.specs.declared.function.Function.TheVariants as function
 use Rattle.mpt_messages.specs.declared.host_ask.HostAsk.TheVariants as ask
 use Rattle.mpt_messages.proofs.FrameStands.{host_frame_stands}
 use Rattle.mpt_messages.proofs.HostFits.{ack_fits, notification_fits, page_fits, port_enable_fits}
-use Rattle.mpt_wire.specs.Messages.Fields.{controlled_handle_in, dev_handle_in, function_in, kind_in, post_descriptor, smid_in}
+use Rattle.mpt_wire.specs.Messages.Fields.{controlled_handle_in, function_in, kind_in, post_descriptor, smid_in}
 use Rattle.mpt_wire.specs.Machine.State.{OpenRequest}
 use Rattle.mpt_trace.specs.declared.item.Down.{Down}
 use Rattle.mpt_trace.specs.declared.item.Down.TheVariants as down
@@ -29,7 +29,7 @@ use Rattle.mpt_rules.specs.Host.Posts.{frame_asked}
 use Rattle.mpt_rules.specs.World.Counts.{one_if, post_count, queued_count}
 use Rattle.mpt_rules.specs.World.Lines.{is_high, normal_posts}
 use Rattle.mpt_rules.specs.World.State.{World}
-use Rattle.mpt_rules.proofs.Counts.{post_count-cons, post_count-nil, queued_count-cons, queued_count-nil}
+use Rattle.mpt_rules.proofs.Counts.{post_count-cons, post_count-nil, queued_count-cons}
 use Rattle.law_facts.specs.Facts.{Facts}
 use Rattle.law_facts.specs.History.{History}
 use Rattle.law_facts.specs.Limits.{RecordFits}

@@ -1,24 +1,18 @@
 -- A command that was posted is aimed at its handle: what the rule of tasks knows of a post is what its record names.
-use Rattle.std.proofs.Common.{◌≡◌, ◌≢◌, ℕ, zero, suc, ◌+◌, ◌^◌, ◌<◌, ◌≤◌, ◌⊎◌, inl, inr, ◌==◌, Bool, true, false, if◌then◌else◌, List, [], ◌∷◌, ◌++◌, append_assoc, Option, Some, None, refl, ap, sym, ◌∙◌, subst, arith}
+use Rattle.std.proofs.Common.{◌≡◌, ℕ, ◌+◌, ◌^◌, ◌<◌, ◌≤◌, ◌⊎◌, inl, inr, ◌==◌, Bool, true, false, if◌then◌else◌, List, [], ◌∷◌, ◌++◌, Some, None, refl, ap, sym, ◌∙◌, subst, arith}
 use Rattle.std.specs.Prelude.{All}
-use Rattle.std.specs.FinMap as finmap
 use Rattle.std.proofs.lemmas.Bool.{eqb-true}
 use Rattle.std.proofs.lemmas.List.Elements.{All-head}
 use Rattle.mpi_layout.specs.Rows.{field}
 use Rattle.scsi_disk.specs.declared.command.Command.{Command}
 use Rattle.scsi_msgs.specs.ScsiIo.{scsi_io_layout, scsi_io_values}
-use Rattle.mpi_rings.specs.declared.request_descriptor.PostKind.TheVariants as post
-use Rattle.mpt_wire.specs.Handles.Names.{Aimed, post_in}
-use Rattle.mpt_wire.specs.Handles.Pages.{aimed_in_put}
-use Rattle.mpt_wire.specs.Handles.Tasks.{Aiming, aiming_next, handle_posted}
-use Rattle.mpt_wire.specs.Machine.State.{put_at}
+use Rattle.mpt_wire.specs.Handles.Tasks.{Aiming, aiming_next}
 use Rattle.mpt_wire.specs.Messages.Fields.{dev_handle_in, smid_in}
 use Rattle.mpt_wire.specs.Walks.Passes.{EachEntry, state_after}
 use Rattle.mpt_trace.specs.declared.entry.Entry.{Entry}
 use Rattle.mpt_trace.specs.declared.entry.Entry.TheVariants as entry
 use Rattle.mpt_trace.specs.declared.item.Down.{Down}
 use Rattle.mpt_trace.specs.declared.item.Down.TheVariants as down
-use Rattle.mpt_trace.specs.declared.item.Item.{Item}
 use Rattle.mpt_trace.specs.declared.item.Item.TheVariants as item
 use Rattle.mpt_trace.specs.declared.lane.LaneName.TheVariants as lane
 use Rattle.mpt_rules.specs.declared.post.Post.{Post}
@@ -26,14 +20,12 @@ use Rattle.mpt_rules.specs.Fabric.Calls as fab
 use Rattle.mpt_rules.specs.Host.Posts.{command_asked, frame_asked}
 use Rattle.mpt_rules.specs.Host.Returns.{after_sent}
 use Rattle.mpt_rules.specs.Host.Takes.{hears_up, looks, stops}
-use Rattle.mpt_rules.specs.Ioc.Parts.{Ioc}
 use Rattle.mpt_rules.specs.Ioc.Steps as step
 use Rattle.mpt_rules.specs.Ioc.Takes as adapter
 use Rattle.mpt_rules.specs.Law.{NothingIsStrange}
 use Rattle.mpt_rules.specs.World.Cases.{Case, entries, happens}
 use Rattle.mpt_rules.specs.World.Counts.{one_if, post_count}
 use Rattle.mpt_rules.specs.World.Inputs.{host_told}
-use Rattle.mpt_rules.specs.World.Places.{is_posted_as}
 use Rattle.mpt_rules.specs.World.State.{World, up_lane, up_on, with_up}
 use Rattle.mpt_rules.proofs.Counts.{post_count-append, post_count-cons, post_count-nil}
 use Rattle.law_facts.specs.Clock.{is_live}

@@ -1,7 +1,7 @@
 -- What a handle is bound to stays, but where an unbind of it is told, or of all.
-use Rattle.std.proofs.Common.{◌≡◌, ℕ, ◌-◌, ◌==◌, Bool, true, false, cond, if◌then◌else◌, List, [], ◌∷◌, ◌++◌, length, set, Option, Some, None, refl, ap, sym, ◌∙◌, subst, length-set, arith}
+use Rattle.std.proofs.Common.{◌≡◌, ℕ, ◌-◌, ◌==◌, Bool, true, false, cond, if◌then◌else◌, List, [], ◌∷◌, length, set, Option, Some, None, refl, ap, sym, ◌∙◌, subst, length-set}
 use Rattle.std.proofs.lemmas.Bool.{eqb-true}
-use Rattle.mpi_doorbell.specs.DoorRegisters.{is_fault, register_written}
+use Rattle.mpi_doorbell.specs.DoorRegisters.{register_written}
 use Rattle.mpi_doorbell.specs.declared.effect.Effect.{Effect}
 use Rattle.mpi_doorbell.specs.declared.effect.Effect.TheVariants as effect
 use Rattle.mpi_rings.specs.declared.request_descriptor.PostKind.TheVariants as post

@@ -1,13 +1,11 @@
 -- A command that is under way behind a case was so before, and its handle is bound as before.
-use Rattle.std.proofs.Common.{◌≡◌, ◌≢◌, ℕ, zero, suc, ◌+◌, ◌-◌, ◌≤◌, ◌==◌, inl, inr, Bool, true, false, not, cond, if◌then◌else◌, List, [], ◌∷◌, ◌++◌, append_assoc, get_or, Option, Some, None, is_some, refl, ap, sym, ◌∙◌, subst, arith}
+use Rattle.std.proofs.Common.{◌≡◌, ◌≢◌, ℕ, zero, suc, ◌+◌, ◌≤◌, ◌==◌, inl, inr, Bool, true, false, not, if◌then◌else◌, List, [], ◌∷◌, ◌++◌, append_assoc, Option, Some, None, refl, ap, sym, ◌∙◌, subst, arith}
 use Rattle.std.specs.Prelude.{All}
 use Rattle.std.specs.FinMap as finmap
-use Rattle.std.proofs.lemmas.Bool.{eqb-true}
-use Rattle.std.proofs.lemmas.List.Elements.{All-head, All-tail}
-use Rattle.mpi_doorbell.specs.DoorRegisters.{is_fault}
+use Rattle.std.proofs.lemmas.List.Elements.{All-head}
 use Rattle.mpi_rings.specs.declared.request_descriptor.PostKind.{PostKind}
 use Rattle.mpi_rings.specs.declared.request_descriptor.PostKind.TheVariants as post
-use Rattle.smid_pool.specs.Pool.{Free, Open, Parked, Slot, slot_of}
+use Rattle.smid_pool.specs.Pool.{Open, slot_of}
 use Rattle.removal.specs.Handles.{IsHandle}
 use Rattle.mpt_messages.specs.Function.{function_of}
 use Rattle.mpt_messages.specs.declared.function.Function.TheVariants as function
@@ -16,21 +14,13 @@ use Rattle.mpt_wire.specs.Messages.Fields.{controlled_handle_in, flags_in, funct
 use Rattle.mpt_wire.specs.Walks.Passes.{EachEntry}
 use Rattle.mpt_trace.specs.declared.entry.Entry.{Entry}
 use Rattle.mpt_trace.specs.declared.entry.Entry.TheVariants as entry
-use Rattle.mpt_trace.specs.declared.input.Input.{Input}
-use Rattle.mpt_trace.specs.declared.input.Input.TheVariants as input
 use Rattle.mpt_trace.specs.declared.item.Down.{Down}
 use Rattle.mpt_trace.specs.declared.item.Down.TheVariants as down
-use Rattle.mpt_trace.specs.declared.item.Item.TheVariants as item
 use Rattle.mpt_trace.specs.declared.item.Up.{Up}
-use Rattle.mpt_trace.specs.declared.item.Up.TheVariants as upward
-use Rattle.mpt_trace.specs.declared.lane.LaneName.TheVariants as lane
-use Rattle.mpt_rules.specs.declared.at_fabric.AtFabric.{AtFabric}
 use Rattle.mpt_rules.specs.declared.binding.Binding.{Binding}
 use Rattle.mpt_rules.specs.declared.binding.Binding.TheVariants as binding
 use Rattle.mpt_rules.specs.declared.post.Post.{Post}
-use Rattle.mpt_rules.specs.declared.request.Request.{Request}
 use Rattle.mpt_rules.specs.declared.request.Request.TheVariants as request
-use Rattle.mpt_rules.specs.Fabric.Calls as fab
 use Rattle.mpt_rules.specs.Host.Parts.{Host}
 use Rattle.mpt_rules.specs.Host.Returns.{after_sent}
 use Rattle.mpt_rules.specs.Host.Takes.{hears_up, looks, stops}
@@ -40,25 +30,22 @@ use Rattle.mpt_rules.specs.Ioc.Tables.{is_post_of, is_unbound, request_at}
 use Rattle.mpt_rules.specs.Ioc.Takes as adapter
 use Rattle.mpt_rules.specs.Law.{NothingIsStrange}
 use Rattle.mpt_rules.specs.World.Cases.{Case, entries, happens}
-use Rattle.mpt_rules.specs.World.Counts.{how_many, one_if, post_count, queued_count}
+use Rattle.mpt_rules.specs.World.Counts.{one_if, post_count, queued_count}
 use Rattle.mpt_rules.specs.World.Inputs.{host_told}
 use Rattle.mpt_rules.specs.World.Lines.{down_line, is_high}
-use Rattle.mpt_rules.specs.World.Places.{is_posted_as}
-use Rattle.mpt_rules.specs.World.State.{World, up_lane, up_on, with_up}
-use Rattle.mpt_rules.proofs.Counts.{post_count-append, post_count-cons, post_count-nil, queued_count-cons}
+use Rattle.mpt_rules.specs.World.State.{World, up_on}
+use Rattle.mpt_rules.proofs.Counts.{post_count-append, post_count-cons, queued_count-cons}
 use Rattle.law_facts.specs.Clock.{is_live}
 use Rattle.law_facts.specs.Facts.{Facts}
 use Rattle.law_facts.specs.Handles.{BindingIs}
 use Rattle.law_facts.specs.History.{History}
-use Rattle.law_facts.specs.Messages.{PostIs, PostIsRecord}
+use Rattle.law_facts.specs.Messages.{PostIsRecord}
 use Rattle.law_facts.specs.Words.{is_command, others, slot}
 use Rattle.law_handles.proofs.HostSays.{told_input}
 use Rattle.law_handles.proofs.HostSilent.{quiet, quiet_taken}
 use Rattle.law_handles.proofs.Tables.{at, binding_is}
-use Rattle.law_messages.proofs.Agreeing.{none_posted}
-use Rattle.law_moves.proofs.Cases.{IsHosts}
 use Rattle.law_moves.proofs.CasesTold.{IsPlugWord, OwesTold, kept_told}
-use Rattle.law_moves.proofs.Counted.{how_many-cons, others-cons}
+use Rattle.law_moves.proofs.Counted.{others-cons}
 use Rattle.law_places.specs.Further.{VectorsFit}
 use Rattle.law_places.proofs.Standing.{named_post}
 use Rattle.law_targets.proofs.HostPosts as host

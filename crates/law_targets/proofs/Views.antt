@@ -1,5 +1,5 @@
 -- What is seen of a handle's phase from outside, whether its disk is announced and its address where that is ready, after each call of the host.
-use Rattle.std.proofs.Common.{◌≡◌, ℕ, zero, suc, ◌+◌, ◌-◌, ◌<◌, ◌≤◌, ◌==◌, ◌&&◌, ◌⊎◌, inl, inr, cond, Bool, true, false, if◌then◌else◌, List, [], ◌∷◌, ◌++◌, length, get_or, take, slice_set, replicate, Option, Some, None, is_some, refl, ap, sym, ◌∙◌, subst, length-set, arith}
+use Rattle.std.proofs.Common.{◌≡◌, ℕ, ◌==◌, ◌&&◌, ◌⊎◌, inl, inr, cond, Bool, true, false, if◌then◌else◌, List, [], ◌∷◌, length, take, slice_set, Option, Some, None, is_some, refl, ap, sym, ◌∙◌, subst, length-set, arith}
 use Rattle.std.specs.Prelude.{All}
 use Rattle.std.specs.FinMap as finmap
 use Rattle.std.specs.FinSet as finset
@@ -20,9 +20,8 @@ use Rattle.mpt_messages.specs.FrameBytes.{message_bytes}
 use Rattle.mpt_messages.specs.HostFrames.{host_message}
 use Rattle.mpt_messages.specs.declared.host_ask.HostAsk.TheVariants as ask
 use Rattle.mpt_wire.specs.Machine.Causes.{is_resetting, is_up}
-use Rattle.mpt_wire.specs.Messages.Fields.{Change, event_context_in, event_in, frame_address_in}
+use Rattle.mpt_wire.specs.Messages.Fields.{Change, frame_address_in}
 use Rattle.mpt_trace.specs.Command.{command_named}
-use Rattle.mpt_trace.specs.declared.entry.Entry.{Entry}
 use Rattle.mpt_trace.specs.declared.host_state.HostState.{HostState}
 use Rattle.mpt_trace.specs.declared.host_state.HostState.TheVariants as state
 use Rattle.mpt_trace.specs.declared.input.Input.{Input}

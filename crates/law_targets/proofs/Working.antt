@@ -1,5 +1,5 @@
 -- The controller has no more of an identifier's command, in its normal queue and at the fabric together, than it had and took.
-use Rattle.std.proofs.Common.{◌≡◌, ℕ, zero, suc, ◌+◌, ◌-◌, ◌<◌, ◌≤◌, ◌⊎◌, inl, inr, ◌==◌, nat_lt, not, Bool, true, false, cond, if◌then◌else◌, List, [], ◌∷◌, ◌++◌, get_or, length, set, Option, Some, None, refl, ap, sym, ◌∙◌, subst, arith}
+use Rattle.std.proofs.Common.{◌≡◌, ℕ, zero, suc, ◌+◌, ◌-◌, ◌≤◌, ◌⊎◌, inl, inr, ◌==◌, nat_lt, not, Bool, true, false, cond, if◌then◌else◌, List, [], ◌∷◌, get_or, length, set, Option, Some, None, refl, ap, sym, subst, arith}
 use Rattle.std.specs.List.{filter}
 use Rattle.std.proofs.lemmas.Bool.{eqb-true}
 use Rattle.mpi_doorbell.specs.DoorRegisters.{is_fault}
@@ -29,7 +29,7 @@ use Rattle.mpt_rules.specs.Ioc.Tables.{is_operational, is_post_of, request_at}
 use Rattle.mpt_rules.specs.Ioc.Takes as adapter
 use Rattle.mpt_rules.specs.Ioc.Tasks as tasks
 use Rattle.mpt_rules.specs.Outcome.{Happening}
-use Rattle.mpt_rules.specs.World.Counts.{one_if, post_count, queued_count}
+use Rattle.mpt_rules.specs.World.Counts.{one_if, queued_count}
 use Rattle.mpt_rules.specs.World.Places.{is_posted_as}
 use Rattle.mpt_rules.proofs.Counts.{queued_count-append, queued_count-cons, queued_count-nil}
 use Rattle.law_facts.specs.Words.{is_command}
