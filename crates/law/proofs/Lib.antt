@@ -1,0 +1,5 @@
+pub mod FurtherKept
+pub mod Induction
+pub mod Joined
+pub mod Statements
+pub mod Untold

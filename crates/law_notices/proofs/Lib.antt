@@ -1,0 +1,15 @@
+pub mod Lit
+pub mod Told
+pub mod Found
+pub mod Known
+pub mod Calls
+pub mod FabricMoves
+pub mod Fit
+pub mod Places
+pub mod Knows
+pub mod Leading
+pub mod LeadsKept
+pub mod Noticed
+pub mod WerePlugged
+pub mod Bound
+pub mod PlugsBound

@@ -1,0 +1,3 @@
+mod Full
+mod Moved
+pub mod Kept
