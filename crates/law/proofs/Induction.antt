@@ -6,7 +6,8 @@ use Rattle.mpt_rules.specs.World.Cases.{Case, entries, happens, run, trace}
 use Rattle.mpt_rules.specs.World.Settings.{IsCase}
 use Rattle.mpt_rules.specs.World.State.{World, queues_of}
 use Rattle.law_facts.specs.History.{History, history_after}
-use Rattle.law.proofs.Joined.{Passed, nothing_passes, passed_joined}
+use Rattle.law.specs.Passed.{Passed}
+use Rattle.law.proofs.Joined.{nothing_passes, passed_joined}
 use Rattle.law.proofs.Untold.{traces_open}
 
 -- what was said after a list of cases

@@ -1,5 +1,5 @@
 -- Entries that pass every rule, joined with entries that pass behind them, pass every rule.
-use Rattle.std.proofs.Common.{◌≡◌, ◌≢◌, ℕ, ◌<◌, ◌≤◌, Bool, false, List, [], ◌∷◌, ◌++◌, refl, sym, ap, subst, ◌∙◌}
+use Rattle.std.proofs.Common.{◌≡◌, ℕ, Bool, false, List, [], ◌∷◌, ◌++◌, refl, sym, ap, subst, ◌∙◌}
 use Rattle.mpt_trace.specs.declared.entry.Entry.{Entry}
 use Rattle.mpt_wire.specs.Handles.Bindings.{bound_next}
 use Rattle.mpt_wire.specs.Handles.Leaving.{LeaveAsks, leaving_next}
@@ -17,43 +17,16 @@ use Rattle.mpt_wire.specs.Paths.Stages.{WalkAsks, walk_next}
 use Rattle.mpt_wire.specs.Paths.Stops.{StopAsks, stopping_next}
 use Rattle.mpt_wire.specs.Paths.TerminationCounts.{HighAsks, high_next}
 use Rattle.mpt_wire.specs.Queues.Frames.{frame_stage}
-use Rattle.mpt_wire.specs.Queues.Identifiers.{ClassAsks, ClassesKept, smid_stage}
+use Rattle.mpt_wire.specs.Queues.Identifiers.{ClassAsks, smid_stage}
 use Rattle.mpt_wire.specs.Queues.LeastPosts.{GivingAsks, giving_next}
 use Rattle.mpt_wire.specs.Queues.Marks.{MarkAsks, ReplyLaneAsks, marks_next}
-use Rattle.mpt_wire.specs.Walks.Ahead.{PassesAhead}
 use Rattle.mpt_wire.specs.Walks.Cycles.{TurnAsks, turn_next}
-use Rattle.mpt_wire.specs.Walks.Passes.{EachEntry, Passes, state_after}
+use Rattle.mpt_wire.specs.Walks.Passes.{Passes, state_after}
 use Rattle.mpt_wire.proofs.Passing.{each_append, passes_append, state_after-append}
 use Rattle.law_facts.specs.History.{History, history_after}
 use Rattle.law_ties.specs.Shown.{ResetsUnbind}
+use Rattle.law.specs.Passed.{Passed}
 use Rattle.law.proofs.Untold.{Opens, giving_told, joined, seen_told}
-
--- entries that pass every rule behind what was said, with q reply queues. Of submissions another law says that each takes the least identifier
-pub record Passed (q : ℕ) (h : History) (t : List Entry) : Type 0 where
-  pub identifiers : (s : ℕ) → s ≢ 0 → Passes (turn_next (smid_stage s)) (TurnAsks (smid_stage s)) (h.turn s) t
-  pub classes : ClassesKept t
-  pub frames : (address : ℕ) → Passes (turn_next (frame_stage address)) (TurnAsks (frame_stage address)) (h.frame_turn address) t
-  pub served : Passes served_next ServedAsks h.serving t
-  pub unbinds : Passes removals_next UnbindAsks h.removals t
-  pub leaving : (handle : ℕ) → Passes (leaving_next handle) (LeaveAsks handle) (h.leaving handle) t
-  pub pages : Passes bound_next PageAsks h.aiming.bound t
-  pub posts : Passes paged_next PagedAsks h.paged t
-  pub tasks : Passes aiming_next TaskAsks h.aiming t
-  pub messages : EachEntry (MessageAsks q) t
-  pub doorbell : Passes door_next (DoorAsks q) h.door t
-  pub walks : (s : ℕ) → Passes (walk_next s) (WalkAsks s) (h.walk s) t
-  pub tells : (s : ℕ) → Passes (walk_next s) (RepliesAsk s) (h.walk s) t
-  pub counts : (s : ℕ) → Passes (high_next s) (HighAsks s) (h.high s) t
-  pub stops : (s : ℕ) → Passes (stopping_next s) (StopAsks s) (h.stopping s) t
-  pub lanes : EachEntry (ReplyLaneAsks q) t
-  pub marks : (queue : ℕ) → 1 ≤ queue → queue < q → Passes (marks_next queue) (MarkAsks queue) (h.marking queue) t
-  pub told : Passes hearing_next HearingAsks h.hearing t
-  pub resets : ResetsUnbind t
-  pub indices : Passes indices_next IndicesAsk h.indices t
-  pub ring : Passes ring_next RingAsks h.ring t
-  pub bell : Passes bell_next BellAsks h.bell t
-  pub given : PassesAhead giving_next GivingAsks h.giving t
-  pub machine : PassesAhead seen_next SeenAsks (record { machine = h.machine; so_far = h.so_far }) t
 
 -- the bindings among what tasks are aimed by
 aimed_bound : (g : Aiming) (t : List Entry) → (state_after aiming_next g t).bound ≡ state_after bound_next g.bound t

@@ -9,10 +9,9 @@ use Rattle.mpt_wire.proofs.HandlesOnWire.{handles_on_wire, messages_on_wire, que
 use Rattle.mpt_wire.proofs.PathRules.{paths_kept}
 use Rattle.mpt_wire.proofs.Views.{view_is_run}
 use Rattle.mpt_wire.proofs.WireCycles.{frames_in_cycles, identifiers_in_cycles}
-use Rattle.mpt_rules.specs.Law.{CommandsGoOnPaths, DisksRun, EntriesAreTied, FramesGoRound, HandlesAreRemoved, HandlesAreServed, HandshakesHandOver, IdentifiersGoRound, MessagesStand, PagesHaveTheirAddress, RepliesKeepTheirQueues, RepliesTellResults, StopsAreCounted, TasksHaveTheirAddress}
 use Rattle.mpt_rules.specs.World.Settings.{Setting}
 use Rattle.law_facts.specs.History.{first_history}
-use Rattle.law.proofs.Joined.{Passed}
+use Rattle.law.specs.Passed.{CarriedByRules, Passed}
 
 module _ (s : Setting) (t : List Entry) (p : Passed s.queues (first_history s.disks) t) (none_due : (state_after served_next nothing_bound t).due ≡ None) where
   handles : HandlesOnWire t
@@ -34,44 +33,20 @@ module _ (s : Setting) (t : List Entry) (p : Passed s.queues (first_history s.di
   paths : PathsKept t
   paths = paths_kept t (record { paths = p.walks; replies = p.tells; counts = p.counts; stops = p.stops })
 
-  pub identifiers_go_round : IdentifiersGoRound s t
-  identifiers_go_round = (identifiers_in_cycles t p.identifiers, p.classes)
-
-  pub frames_go_round : FramesGoRound s t
-  frames_go_round = frames_in_cycles t p.frames
-
-  pub handles_are_served : HandlesAreServed s t
-  handles_are_served = handles.plugs
-
-  pub handles_are_removed : HandlesAreRemoved s t
-  handles_are_removed = (handles.unbinds, handles.leaving)
-
-  pub pages_have_their_address : PagesHaveTheirAddress s t
-  pages_have_their_address = (handles.pages, handles.posts)
-
-  pub tasks_have_their_address : TasksHaveTheirAddress s t
-  tasks_have_their_address = handles.tasks
-
-  pub messages_stand : MessagesStand s t
-  messages_stand = messages.frames
-
-  pub handshakes_hand_over : HandshakesHandOver s t
-  handshakes_hand_over = messages.doorbell
-
-  pub commands_go_on_paths : CommandsGoOnPaths s t
-  commands_go_on_paths = paths.paths
-
-  pub replies_tell_results : RepliesTellResults s t
-  replies_tell_results = paths.replies
-
-  pub stops_are_counted : StopsAreCounted s t
-  stops_are_counted = (paths.counts, paths.stops)
-
-  pub replies_keep_their_queues : RepliesKeepTheirQueues s t
-  replies_keep_their_queues = (queues.replies, queues.marks)
-
-  pub entries_are_tied : EntriesAreTied s t
-  entries_are_tied = record { told = p.told; resets = p.resets.passes; indices = p.indices; frames = p.ring; status = p.bell; identifiers = p.given }
-
-  pub disks_run : DisksRun s t
-  disks_run = view_is_run s.disks t p.machine
+  pub carried : CarriedByRules s t
+  carried = record {
+    identifiers = (identifiers_in_cycles t p.identifiers, p.classes);
+    frames = frames_in_cycles t p.frames;
+    served = handles.plugs;
+    removed = (handles.unbinds, handles.leaving);
+    pages = (handles.pages, handles.posts);
+    tasks = handles.tasks;
+    messages = messages.frames;
+    handshakes = messages.doorbell;
+    paths = paths.paths;
+    results = paths.replies;
+    counts = (paths.counts, paths.stops);
+    queues = (queues.replies, queues.marks);
+    tied = record { told = p.told; resets = p.resets.passes; indices = p.indices; frames = p.ring; status = p.bell; identifiers = p.given };
+    disks = view_is_run s.disks t p.machine;
+  }

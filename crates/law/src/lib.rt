@@ -1,3 +1,7 @@
-//! The law: what holds of every trace, of every world, of every schedule and of every session. The functions do nothing: what
-//! their contracts say is all that they are for.
+//! The law: what the facts, once they go along a list of cases, say of its trace. The functions do nothing: what their contracts
+//! say is all that they are for.
 #![tactic(auto)]
+
+mod laws;
+
+pub use laws::{further_facts_are_kept, rules_carry_the_law};
