@@ -45,7 +45,7 @@ own_counts (x ∷ xs) =
     (all_same (λ (p : Post). 1 ≤ queued_count (smid_in p.descriptor) xs) (λ (p : Post). 1 ≤ queued_count (smid_in p.descriptor) (x ∷ xs)) (λ p l. let c = queued_count-cons (smid_in p.descriptor) x xs in omega (arith, c, l)) xs (own_counts xs))
 
 -- a count of posts that all have one identifier
-under_one : (test : Post → Bool) (s : ℕ) → ((p : Post) → test p ≡ true → smid_in p.descriptor ≡ s) → (xs : List Post) → how_many test xs ≤ queued_count s xs
+pub under_one : (test : Post → Bool) (s : ℕ) → ((p : Post) → test p ≡ true → smid_in p.descriptor ≡ s) → (xs : List Post) → how_many test xs ≤ queued_count s xs
 under_one test s n [] = let a = how_many-nil test in omega (arith, a)
 under_one test s n (x ∷ xs) = (let c = how_many-cons test x xs in let d = queued_count-cons s x xs in let h = under_one test s n xs in let t = by_test (test x) refl in omega (arith, c, d, h, t))
   where
@@ -54,7 +54,7 @@ under_one test s n (x ∷ xs) = (let c = how_many-cons test x xs in let d = queu
     by_test true t = let z = n x t in let o = own_key s in let u : one_if (is_post_of s x) ≡ 1 = ap (λ j. one_if (j == s)) z ∙ o in omega (arith, u)
 
 -- one of a kind is there
-some_post : (test : Post → Bool) (xs : List Post) → 1 ≤ how_many test xs → (p : Post) × (test p ≡ true)
+pub some_post : (test : Post → Bool) (xs : List Post) → 1 ≤ how_many test xs → (p : Post) × (test p ≡ true)
 some_post test [] l = let a = how_many-nil test in absurd (omega (arith, a, l))
 some_post test (x ∷ xs) l = by_test (test x) refl (λ m. some_post test xs m)
   where

@@ -84,12 +84,12 @@ use Rattle.law_removals.proofs.Unbinds.{IsRemovalPost, of_removal}
 
 -- ---- lists
 
-part_all : {X : Type 0} (P : X → Type 0) (xs ys : List X) → Part xs ys → All P ys → All P xs
+pub part_all : {X : Type 0} (P : X → Type 0) (xs ys : List X) → Part xs ys → All P ys → All P xs
 part_all P xs ys Empty a = All-nil P
 part_all P xs ys (Keeps x us vs p) a = All-cons P x us (All-head P x vs a) (part_all P us vs p (All-tail P x vs a))
 part_all P xs ys (Drops x us vs p) a = part_all P us vs p (All-tail P x vs a)
 
-none_each : {X : Type 0} (test : X → Bool) (xs : List X) → how_many test xs ≡ 0 → All (λ x. test x ≡ false) xs
+pub none_each : {X : Type 0} (test : X → Bool) (xs : List X) → how_many test xs ≡ 0 → All (λ x. test x ≡ false) xs
 none_each test [] z = All-nil (λ x. test x ≡ false)
 none_each test (x ∷ xs) z = (let c = how_many-cons test x xs in All-cons (λ y. test y ≡ false) x xs (by_test (test x) (omega (arith, c, z))) (none_each test xs (omega (arith, c, z))))
   where
@@ -97,7 +97,7 @@ none_each test (x ∷ xs) z = (let c = how_many-cons test x xs in All-cons (λ y
     by_test true u = absurd (omega (arith, u))
     by_test false u = refl
 
-all_and : {X : Type 0} (P Q : X → Type 0) (xs : List X) → All P xs → All Q xs → All (λ x. P x × Q x) xs
+pub all_and : {X : Type 0} (P Q : X → Type 0) (xs : List X) → All P xs → All Q xs → All (λ x. P x × Q x) xs
 all_and P Q [] a b = All-nil (λ x. P x × Q x)
 all_and P Q (x ∷ xs) a b = All-cons (λ y. P y × Q y) x xs (All-head P x xs a, All-head Q x xs b) (all_and P Q xs (All-tail P x xs a) (All-tail Q x xs b))
 
@@ -112,39 +112,39 @@ left_goes [] ts s e f = f e
 left_goes (told_news.Added ∷ ns) ts s e f = let z = sym (replayed_none (map turn_of ns ++ ts)) ∙ e in absurd (cc)
 left_goes (told_news.NotResponding ∷ ns) ts s e f = let z = sym (replayed_none (map turn_of ns ++ ts)) ∙ e in absurd (cc)
 
-left_stays : (g : ℕ) (line : List Said) (s : Side) → replayed (Some Left) (turns_of 0 g line) ≡ Some s → s ≡ Left
+pub left_stays : (g : ℕ) (line : List Said) (s : Side) → replayed (Some Left) (turns_of 0 g line) ≡ Some s → s ≡ Left
 left_stays g [] s e = let z : Some Left ≡ Some s = sym (ap (replayed (Some Left)) (turns_nil 0 g)) ∙ e in cc
 left_stays g (x ∷ xs) s e = left_goes (news_in g x) (turns_of 0 g xs) s (sym (ap (replayed (Some Left)) (turns_cons 0 g x xs)) ∙ e) (λ u. left_stays g xs s u)
 
-left_is_gone : (b : Binding) → side_of_binding b ≡ Left → is_gone_binding b ≡ true
+pub left_is_gone : (b : Binding) → side_of_binding b ≡ Left → is_gone_binding b ≡ true
 left_is_gone binding.Unbound e = absurd (cc)
 left_is_gone (binding.Present address plug expander phy) e = absurd (cc)
 left_is_gone (binding.Gone address) e = refl
 
 -- ---- what becomes of a binding that isn't freed
 
-data Goes : Binding → Binding → Type 0 where
+pub data Goes : Binding → Binding → Type 0 where
   Stay : (b : Binding) → Goes b b
   WasUnbound : (b : Binding) → Goes binding.Unbound b
   Left_ : (address plug expander phy : ℕ) → Goes (binding.Present address plug expander phy) (binding.Gone address)
 
-goes_on : (a b c : Binding) → Goes a b → Goes b c → Goes a c
+pub goes_on : (a b c : Binding) → Goes a b → Goes b c → Goes a c
 goes_on a b c (Stay x) q = q
 goes_on a b c (WasUnbound x) q = WasUnbound c
 goes_on a b c (Left_ address plug expander phy) (Stay x) = Left_ address plug expander phy
 
-keeps_address : (a b : Binding) → Goes a b → (x : ℕ) → address_of a ≡ Some x → address_of b ≡ Some x
+pub keeps_address : (a b : Binding) → Goes a b → (x : ℕ) → address_of a ≡ Some x → address_of b ≡ Some x
 keeps_address a b (Stay y) x e = e
 keeps_address a b (WasUnbound y) x e = absurd (cc)
 keeps_address a b (Left_ address plug expander phy) x e = e
 
-keeps_gone : (a b : Binding) → Goes a b → is_gone_binding a ≡ true → is_gone_binding b ≡ true
+pub keeps_gone : (a b : Binding) → Goes a b → is_gone_binding a ≡ true → is_gone_binding b ≡ true
 keeps_gone a b (Stay y) e = e
 keeps_gone a b (WasUnbound y) e = absurd (cc)
 keeps_gone a b (Left_ address plug expander phy) e = absurd (cc)
 
 module _ (q : ℕ) where
-  abbrev GoesAt : Ioc → Ioc → Type 0
+  abbrev pub GoesAt : Ioc → Ioc → Type 0
   GoesAt j k = Goes (binding_of j q) (binding_of k q)
 
   -- a handle that isn't a disk's stands for nothing
@@ -189,7 +189,7 @@ module _ (q : ℕ) where
     still : GoesAt j j
     still = Stay (binding_of j q)
 
-    heard : (x : Back) (o : Happening Ioc) → Hears j x o → GoesAt j o.part
+    pub heard : (x : Back) (o : Happening Ioc) → Hears j x o → GoesAt j o.part
     heard x o (Passed e) = to o (table.silently j) e still
     heard x o (Ended tag handle queue len written r e) = to o _ e (released j (say.says_on (table.without_request j tag) queue (reply_made x handle len written ∷ [])) handle still)
     heard x o (Done smid r answer z e) = to o _ e still
@@ -214,7 +214,7 @@ module _ (q : ℕ) where
             changed j (table.with_binding (record j { waiting = ds }) h1 (binding.Present d.address d.plug d.expander d.phy)) h1 d.expander d.phy true
             (let y = least_is j.bindings h1 l e in set_at (record j { waiting = ds }) h1 (binding.Present d.address d.plug d.expander d.phy) l y.0 (subst (λ b. Goes b (binding.Present d.address d.plug d.expander d.phy)) (sym y.1) (WasUnbound _)))
 
-    worked : (p : Post) (o : Happening Ioc) → Works j p o → (kind_in p.descriptor ≡ Some post.Default → function_of (function_in p.frame) ≡ Some function.UnitControl → GoesAt j (asked.removes j p).part) → GoesAt j o.part
+    pub worked : (p : Post) (o : Happening Ioc) → Works j p o → (kind_in p.descriptor ≡ Some post.Default → function_of (function_in p.frame) ≡ Some function.UnitControl → GoesAt j (asked.removes j p).part) → GoesAt j o.part
     worked p o (Dropped k e) r = to o _ e still
     worked p o (Refuses k f d z e) r = to o _ e still
     worked p o (ScsiEnds status k c e) r = to o _ e still
@@ -237,7 +237,7 @@ module _ (q : ℕ) where
     worked p o (Strays k z e) r = to o _ e still
 
   -- another handle is freed
-  other_freed : (j : Ioc) (p : Post) (h0 : ℕ) → length j.bindings ≡ 64 → IsHandle h0 → controlled_handle_in p.frame ≡ h0 → (q == h0) ≡ false → GoesAt j (asked.removes j p).part
+  pub other_freed : (j : Ioc) (p : Post) (h0 : ℕ) → length j.bindings ≡ 64 → IsHandle h0 → controlled_handle_in p.frame ≡ h0 → (q == h0) ≡ false → GoesAt j (asked.removes j p).part
   other_freed j p h0 l k e n =
       goes_on (binding_of j q) (binding_of (table.with_binding j (controlled_handle_in p.frame) binding.Unbound) q) (binding_of (asked.removes j p).part q)
       (subst (λ x. GoesAt j (table.with_binding j x binding.Unbound)) (sym e) (other_at j h0 binding.Unbound l k n))
@@ -245,16 +245,16 @@ module _ (q : ℕ) where
 
 -- ---- a post's type
 
-type_of_reset : (handle : ℕ) → IsHandle handle → task_type_in (frame_asked (ask.Task handle target_reset 0)) ≡ target_reset
+pub type_of_reset : (handle : ℕ) → IsHandle handle → task_type_in (frame_asked (ask.Task handle target_reset 0)) ≡ target_reset
 unfolding task_ask_layout task_ask_values
 type_of_reset handle l = ap (λ vs. get_or vs 4 0) (host_frame_stands (ask.Task handle target_reset 0) (task_fits handle target_reset 0 (omega (arith, l)) (inr (refl, refl)))).numbers
 
-is_some_removal : (n : ℕ) → 1 ≤ n → (c : Bool) → (not (n == 0) || c) ≡ true
+pub is_some_removal : (n : ℕ) → 1 ≤ n → (c : Bool) → (not (n == 0) || c) ≡ true
 is_some_removal zero l c = absurd (omega (arith, l))
 is_some_removal (suc n) l c = let z : (suc n == 0) ≡ false = grind arith in ap (λ b. not b || c) z
 
 -- the address of a handle that the rule has as bound
-bound_address : (a : ℕ) (b : Binding) (o : Option Plug) → BindingIs b o → option_map (λ (p : Plug). p.address) o ≡ Some a → address_of b ≡ Some a
+pub bound_address : (a : ℕ) (b : Binding) (o : Option Plug) → BindingIs b o → option_map (λ (p : Plug). p.address) o ≡ Some a → address_of b ≡ Some a
 bound_address a binding.Unbound o e z = let y = sym (ap (option_map (λ (p : Plug). p.address)) e) ∙ z in absurd (cc)
 bound_address a (binding.Present address plug expander phy) o e z = sym (ap (option_map (λ (p : Plug). p.address)) e) ∙ z
 bound_address a (binding.Gone address) None e z = absurd e
@@ -281,7 +281,7 @@ module _ (w : World) (h : History) (f : Facts w h) (plain : NothingIsStrange w) 
   abbrev Kept : World → Type 0
   Kept v = (k : History) → After w h v k → is_live v ≡ true → AllBound v
 
-  line_dead : is_live w ≡ false → high_line w ≡ []
+  pub line_dead : is_live w ≡ false → high_line w ≡ []
   line_dead d =
       let t = f.clock.tables_empty (bare w f.clock.phase_table.whole d) in
       ap (λ ns. ns ++ high_posts (down_line w)) t.high ∙ none_high (down_line w) (no_posts (how_many is_load (down_line w)) refl)
@@ -307,7 +307,7 @@ module _ (w : World) (h : History) (f : Facts w h) (plain : NothingIsStrange w) 
       by_item (down.Return address i) r b = b
       by_item down.Stop r b = b
 
-  records : All (PostIsRecord w h) (high_line w)
+  pub records : All (PostIsRecord w h) (high_line w)
   records = All-append (PostIsRecord w h) w.ioc.high (high_posts (down_line w)) f.messages.high (records_down (down_line w) f.messages.down)
 
   -- ---- the controller goes on
@@ -387,13 +387,13 @@ module _ (w : World) (h : History) (f : Facts w h) (plain : NothingIsStrange w) 
       sym (ap (λ c. c && (dev_handle_in p.frame == g)) (ap (λ m. m == target_reset) t ∙ same)) ∙ n
 
   module _ (p0 : Post) (rest : List Post) (front : w.ioc.normal ≡ p0 ∷ rest) where
-    abbrev Freed : Type 0
+    abbrev pub Freed : Type 0
     Freed = (kind_in p0.descriptor ≡ Some post.Default) × (function_of (function_in p0.frame) ≡ Some function.UnitControl)
 
-    its : Freed → IsRemovalPost w p0
+    pub its : Freed → IsRemovalPost w p0
     its k = of_removal w h f p0 (All-head (PostIsRecord w h) p0 rest (subst (All (PostIsRecord w h)) front f.messages.normal)) k.0 k.1
 
-    its_handle : (k : Freed) → IsHandle (its k).0
+    pub its_handle : (k : Freed) → IsHandle (its k).0
     its_handle k = record_fits w h f (smid_in p0.descriptor) (request.Remove (its k).0) (its k).1
 
     none_left : is_live w ≡ true → (k : Freed) → All (λ (p : Post). is_target_reset_post (controlled_handle_in p0.frame) p ≡ false) (high_line w)
@@ -408,7 +408,7 @@ module _ (w : World) (h : History) (f : Facts w h) (plain : NothingIsStrange w) 
         let go = (f.handles.each x.0 (its_handle k)).last.let_go l (is_some_removal (removes w x.0) (omega (arith, y, count, mine)) (in_normal w && Rattle.law_facts.specs.Handles.is_reset_done w (phase_of w x.0))) in
         none_each (is_target_reset_post (controlled_handle_in p0.frame)) (high_line w) (ap (λ j. how_many (is_target_reset_post j) (high_line w)) e ∙ go.resets)
 
-    freed_apart : (q : ℕ) (k : Freed) → (q == controlled_handle_in p0.frame) ≡ false → Goes (binding_of w.ioc q) (binding_of (asked.removes (record w.ioc { normal = rest }) p0).part q)
+    pub freed_apart : (q : ℕ) (k : Freed) → (q == controlled_handle_in p0.frame) ≡ false → Goes (binding_of w.ioc q) (binding_of (asked.removes (record w.ioc { normal = rest }) p0).part q)
     freed_apart q k n =
         let x = its k in
         let e = (removal_frame x.0 p0.frame (its_handle k) x.2).1 in
@@ -437,7 +437,7 @@ module _ (w : World) (h : History) (f : Facts w h) (plain : NothingIsStrange w) 
           let v = ap kind_by_flags flags in
           absurd (cc)
 
-  no_fault : (x : IocState) → is_fault x ≡ true → is_operational x ≡ true → ⊥
+  pub no_fault : (x : IocState) → is_fault x ≡ true → is_operational x ≡ true → ⊥
   no_fault ioc_state.Reset a b = cc
   no_fault ioc_state.Ready a b = cc
   no_fault ioc_state.Operational a b = cc
@@ -446,7 +446,7 @@ module _ (w : World) (h : History) (f : Facts w h) (plain : NothingIsStrange w) 
   same_binding : (j : Ioc) (q : ℕ) → binding_of j q ≡ binding_of w.ioc q → Goes (binding_of w.ioc q) (binding_of j q)
   same_binding j q e = subst (Goes (binding_of w.ioc q)) (sym e) (Stay (binding_of w.ioc q))
 
-  item_taken : (x : Down) (j : Ioc) → Takes w.ioc x j → is_operational j.door.state ≡ true → (q : ℕ) → Goes (binding_of w.ioc q) (binding_of j q)
+  pub item_taken : (x : Down) (j : Ioc) → Takes w.ioc x j → is_operational j.door.state ≡ true → (q : ℕ) → Goes (binding_of w.ioc q) (binding_of j q)
   item_taken x j (leaf.Faults y m e) l q = absurd (no_fault j.door.state e l)
   item_taken x j (leaf.Written reg value m r s e) l q = same_binding j q (ap (λ (y : Ioc). binding_of y q) e)
   item_taken x j (leaf.Operates value m r s t e) l q = same_binding j q (ap (λ (y : Ioc). binding_of y q) e)
@@ -463,7 +463,7 @@ module _ (w : World) (h : History) (f : Facts w h) (plain : NothingIsStrange w) 
 
   -- ---- the host
 
-  high_few : (s : ℕ) (xs : List Down) → queued_count s (high_posts xs) ≤ post_count s xs
+  pub high_few : (s : ℕ) (xs : List Down) → queued_count s (high_posts xs) ≤ post_count s xs
   high_few s [] = let a = ap (queued_count s) high_posts-nil in let n = queued_count-nil s in omega (arith, a, n)
   high_few s (x ∷ xs) = (let h = high_few s xs in let a = ap (queued_count s) (high_posts-cons x xs) in let c = post_count-cons s x xs in let b = by_item x in omega (arith, h, a, c, b))
     where
@@ -478,7 +478,7 @@ module _ (w : World) (h : History) (f : Facts w h) (plain : NothingIsStrange w) 
       by_item (down.Return address i) = omega arith
       by_item down.Stop = omega arith
 
-  in_posts : (s : ℕ) → 1 ≤ queued_count s (high_line w) → 1 ≤ posted w s
+  pub in_posts : (s : ℕ) → 1 ≤ queued_count s (high_line w) → 1 ≤ posted w s
   in_posts s l = let a = queued_count-append s w.ioc.high (high_posts (down_line w)) in let b = high_few s (down_line w) in omega (arith, a, b, l)
 
   module _ (v : World) (same_ioc : v.ioc ≡ w.ioc) (k : History) (a : After w h v k) (live : is_live v ≡ true) where

@@ -198,7 +198,7 @@ module _ (w : World) (h : History) (f : Facts w h) (ends : EndsAgree h) where
   behind v e t a b = without v (e ∷ t) (a, quiet_all t b)
 
   -- an item that names s is of what is open under it
-  of_slot : (queue : ℕ) (y : Said) → SaidIs w h queue y → (s : ℕ) → is_reply_of s y ≡ true → (s ≡ 0) ⊎ ((r : Request) × (slot w.host s ≡ Open r))
+  pub of_slot : (queue : ℕ) (y : Said) → SaidIs w h queue y → (s : ℕ) → is_reply_of s y ≡ true → (s ≡ 0) ⊎ ((r : Request) × (slot w.host s ≡ Open r))
   of_slot queue (said.Framed zero frame page sense) a s t = inl (sym (eqb-true 0 s t))
   of_slot queue (said.Framed (suc j) frame page sense) a s t = inr (by_slot (slot w.host (suc j)) refl a)
     where
@@ -216,14 +216,14 @@ module _ (w : World) (h : History) (f : Facts w h) (ends : EndsAgree h) where
   of_slot queue (said.Mark generation) a s t = absurd (cc)
   of_slot queue said.Calm a s t = absurd (cc)
 
-  low : (queue : ℕ) (y : Said) → SaidIs w h queue y → (s : ℕ) → is_reply_of s y ≡ true → s < 65536
+  pub low : (queue : ℕ) (y : Said) → SaidIs w h queue y → (s : ℕ) → is_reply_of s y ≡ true → s < 65536
   low queue y a s t = by_either (of_slot queue y a s t)
     where
       by_either : (s ≡ 0) ⊎ ((r : Request) × (slot w.host s ≡ Open r)) → s < 65536
       by_either (inl z) = omega (arith, z)
       by_either (inr o) = let i = inside w h f s o.0 o.1 in omega (arith, i)
 
-  command_there : (s : ℕ) (r : Request) → slot w.host s ≡ Open r → s ≤ 256 → is_command_asked (slot w.host s) ≡ true
+  pub command_there : (s : ℕ) (r : Request) → slot w.host s ≡ Open r → s ≤ 256 → is_command_asked (slot w.host s) ≡ true
   command_there s (request.Command n) e m = ap is_command_asked e
   command_there s (request.Abort n task) e m = let c = classed w h f s (request.Abort n task) e in absurd (omega (arith, c, m))
   command_there s (request.TargetReset address) e m = let c = classed w h f s (request.TargetReset address) e in absurd (omega (arith, c, m))
@@ -235,7 +235,7 @@ module _ (w : World) (h : History) (f : Facts w h) (ends : EndsAgree h) where
   command_there s request.PortEnable e m = let c = classed w h f s request.PortEnable e in absurd (omega (arith, c, m))
 
   -- nothing was said of a command whose reply waits
-  unsaid : (queue : ℕ) (y : Said) (rest : List Said) → outbox_of w.ioc queue ≡ y ∷ rest → SaidIs w h queue y → (s : ℕ) → 1 ≤ s → s ≤ 256 → is_reply_of s y ≡ true → ((h.stopping s).life.stopped ≡ false) × ((h.stopping s).life.other ≡ false)
+  pub unsaid : (queue : ℕ) (y : Said) (rest : List Said) → outbox_of w.ioc queue ≡ y ∷ rest → SaidIs w h queue y → (s : ℕ) → 1 ≤ s → s ≤ 256 → is_reply_of s y ≡ true → ((h.stopping s).life.stopped ≡ false) × ((h.stopping s).life.other ≡ false)
   unsaid queue y rest e a s l m t = by_either (of_slot queue y a s t)
     where
       by_either : (s ≡ 0) ⊎ ((r : Request) × (slot w.host s ≡ Open r)) → ((h.stopping s).life.stopped ≡ false) × ((h.stopping s).life.other ≡ false)

@@ -1,0 +1,9 @@
+pub mod Steps
+pub mod Tracks
+pub mod News
+pub mod Passed
+pub mod Held
+pub mod Known
+pub mod Ordered
+pub mod HeldStays
+pub mod Waiting

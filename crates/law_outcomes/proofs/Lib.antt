@@ -1,0 +1,4 @@
+pub mod Stages
+pub mod Dull
+pub mod Runs
+pub mod Fields

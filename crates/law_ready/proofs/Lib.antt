@@ -1,0 +1,9 @@
+pub mod Bare
+pub mod Lines
+pub mod Turned
+pub mod Bound
+pub mod Fitting
+pub mod HandlesKept
+pub mod CountedReady
+pub mod AddressesKept
+pub mod OffKept

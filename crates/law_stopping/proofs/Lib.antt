@@ -1,0 +1,11 @@
+pub mod Lives
+pub mod Waiting
+pub mod FairLives
+pub mod Taken
+pub mod StopsPass
+pub mod HostSlots
+pub mod Turns
+pub mod TargetsKept
+pub mod LaneSums
+pub mod LifeSteps
+pub mod RepliesKept
