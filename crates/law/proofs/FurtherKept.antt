@@ -13,6 +13,12 @@ use Rattle.law_classes.proofs.NoticesFirst.{notices_first, notices_kept}
 use Rattle.law_counts.proofs.FitsKept.{fits_at_first}
 use Rattle.law_counts.proofs.Shown.{answers_at_first, counts_shown, progress_shown}
 use Rattle.law_disks.proofs.Kept.{machine_kept, was_first}
+use Rattle.law_notices.proofs.Places.{apart_at_first, apart_kept}
+use Rattle.law_notices.proofs.WerePlugged.{were_at_first, were_kept}
+use Rattle.law_outcomes.proofs.Runs.{runs_at_first, runs_kept}
+use Rattle.law_pages.proofs.OthersKept.{others_at_first, others_kept}
+use Rattle.law_ready.proofs.OffKept as ready
+use Rattle.law_stopping.proofs.TargetsKept.{targets_at_first, targets_known}
 use Rattle.law_messages.proofs.AcceptedKept.{aborts_accepted_at_first}
 use Rattle.law_messages.proofs.Shown.{aborts_stay}
 use Rattle.law_paths.proofs.Kept.{further_paths_at_first, further_paths_kept}
@@ -58,6 +64,12 @@ further_first s =
       counts = fits_at_first s;
       ends = ends_at_first s;
       ready = was_first s.disks;
+      apart = apart_at_first s;
+      plugged = were_at_first s;
+      pages = others_at_first s;
+      turns = targets_at_first s;
+      runs = runs_at_first s.disks;
+      off_ready = ready.off_at_first s;
     }
 
 pub strange_nowhere : (w : World) (h : History) → Whole w h → NothingIsStrange w
@@ -88,6 +100,12 @@ further_stays w h c i a =
       counts = (counts_shown w h c f plain x.aborts x.answers x.counts).further;
       ends = ends_kept w h f x.ends plain c;
       ready = (machine_kept w h f plain x.outcomes x.aborts x.ready c).plugs.ready_fits;
+      apart = apart_kept w h c f plain x.apart;
+      plugged = were_kept w h f x.plugged plain c;
+      pages = others_kept w h f plain x.pages c;
+      turns = (targets_known w h f x.turns plain x.flights.vectors c).further;
+      runs = runs_kept w h f x.paths x.runs plain c;
+      off_ready = ready.off_kept w h f plain x.off_ready c;
     }
   where
     f : Facts w h

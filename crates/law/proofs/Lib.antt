@@ -1,3 +1,5 @@
+pub mod CasePasses
+pub mod FactsKept
 pub mod FurtherKept
 pub mod Induction
 pub mod Joined

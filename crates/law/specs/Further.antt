@@ -8,6 +8,11 @@ use Rattle.law_bring_up.specs.Enables.{EnablesStand}
 use Rattle.law_classes.specs.Made.{NotificationsStand}
 use Rattle.law_counts.specs.Counted.{CountsFit, FabricAnswers}
 use Rattle.law_disks.specs.Machine.{ReadyWasPlugged}
+use Rattle.law_notices.specs.Further.{DisksStandApart, DisksWerePlugged}
+use Rattle.law_outcomes.specs.Stages.{RunsByStage}
+use Rattle.law_pages.specs.Paged.{OtherPagesUnknown}
+use Rattle.law_ready.specs.Ready.{OffReady}
+use Rattle.law_stopping.specs.Stopping.{TurnsKnown}
 use Rattle.law_messages.specs.Numbers.{AbortsAreAccepted}
 use Rattle.law_paths.specs.Paths.{FurtherPaths}
 use Rattle.law_paths.specs.Payloads.{PayloadsFit}
@@ -45,6 +50,12 @@ pub record Further (w : World) (h : History) : Type 0 where
   pub counts : CountsFit w
   pub ends : EndsAgree h
   pub ready : ReadyWasPlugged h
+  pub apart : DisksStandApart w
+  pub plugged : DisksWerePlugged w
+  pub pages : OtherPagesUnknown w h
+  pub turns : TurnsKnown w h
+  pub runs : RunsByStage h
+  pub off_ready : OffReady w h
 
 -- the facts and these
 pub record Whole (w : World) (h : History) : Type 0 where

@@ -4,4 +4,7 @@
 
 mod laws;
 
-pub use laws::{further_facts_are_kept, rules_carry_the_law};
+pub use laws::{
+    cases_pass_but_for_the_told, facts_are_kept_but_for_the_missing, further_facts_are_kept,
+    rules_carry_the_law,
+};

@@ -343,8 +343,8 @@ module _ (w : World) (h : History) (f : Facts w h) where
           ∙ (ap (λ k. removal.hears_event h1 (unwrap_or k [])) framed
           ∙ (ap (λ k. removal.hears_changes h2 k) changes_is
           ∙ ap
-            (λ k. removal.after_told (if k then removal.hears_status h2 (field g 0x28 2) (status_of added) else removal.quietly h2).entries (removal.quietly (if k then removal.hears_status h2 (field g 0x28 2) (status_of added) else removal.quietly h2).part))
-            (disk_tests (field g 0x28 2) disk2)))
+          (λ k. removal.after_told (if k then removal.hears_status h2 (field g 0x28 2) (status_of added) else removal.quietly h2).entries (removal.quietly (if k then removal.hears_status h2 (field g 0x28 2) (status_of added) else removal.quietly h2).part))
+          (disk_tests (field g 0x28 2) disk2)))
 
       -- the handle, which wasn't ready, isn't
       keeps_by : (k : Host) (t : List Entry) (o : Option (Option ℕ)) → seen_ready o ≡ None → ready_at (phase_of w (field g 0x28 2)) ≡ None
